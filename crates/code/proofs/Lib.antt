@@ -1,0 +1,4 @@
+-- The lemmas of this crate.
+pub mod Rows
+pub mod Costs
+pub mod Checks

@@ -1,0 +1,76 @@
+// The trivial code, whose only word is a single zero: what a code means whose numbers break its limits.
+ghost use Rattle.trivial.specs.Limits.{trivial, no-message};
+use alphabet::Alphabet;
+use code::Code;
+use code::Content;
+use code::Counts;
+use code::Reason;
+use code::Refusal;
+use code::check_cells;
+use code::check_encode;
+use code::check_lawful;
+use code::check_read;
+use code::check_take_out;
+use std::marker::PhantomData;
+
+#[derive(Drop)]
+pub struct Trivial<S> {
+    pub symbols: PhantomData<S>,
+}
+
+pub impl<S: Alphabet> Code for Trivial<S> as TrivialCode {
+    type Symbols = S;
+
+    ghost codebook = { λ c. trivial (S·Alphabet .size) };
+
+    ghost layout = { λ c. no-message };
+
+    fn length(&self) -> usize {
+        1
+    }
+
+    fn message_length(&self) -> usize {
+        0
+    }
+
+    fn distance(&self) -> usize {
+        1
+    }
+
+    fn working_cells(&self) -> usize {
+        0
+    }
+
+    fn message_place(&self, i: usize) -> Option<usize> {
+        None
+    }
+
+    fn read(&self, received: &[u16], answer: &mut [u16], work: &mut [u16]) -> Result<Counts, Refusal> {
+        check_read(1, 0, received, answer, work)?;
+        check_cells(received, S::size(), Content::Received)?;
+        if received[0] != 0 {
+            return Err(Reason::Lost.at(0));
+        }
+        answer[0] = 0;
+        Ok(Counts { wrong: 0, blank: 0 })
+    }
+
+    fn lawful(&self, cells: &[u16], work: &mut [u16]) -> Result<bool, Refusal> {
+        check_lawful(1, 0, cells, work)?;
+        check_cells(cells, S::size(), Content::Word)?;
+        Ok(cells[0] == 0)
+    }
+
+    fn encode(&self, message: &[u16], answer: &mut [u16], work: &mut [u16]) -> Result<(), Refusal> {
+        check_encode(1, 0, 0, message, answer, work)?;
+        check_cells(message, S::size(), Content::Word)?;
+        answer[0] = 0;
+        Ok(())
+    }
+
+    fn take_out(&self, word: &[u16], answer: &mut [u16]) -> Result<(), Refusal> {
+        check_take_out(1, 0, 0, word, answer)?;
+        check_cells(word, S::size(), Content::Word)?;
+        Ok(())
+    }
+}
