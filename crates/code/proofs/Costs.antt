@@ -10,16 +10,12 @@ use lib.Dec.{eqb}
 use Rattle.std.proofs.shelf.Tests.{cases-lt}
 use Rattle.std.proofs.shelf.Ways.{tells}
 use Rattle.code.specs.declared.cells.Counts.{Counts}
-use Rattle.code.specs.Cells.{listed, blank, wrong, faint, wrongs, blanks, cost, differing}
+use Rattle.code.specs.Cells.{listed, wrong, faint, wrongs, blanks, cost, price, differing}
 use Rattle.alphabet.specs.Sums.{sum}
 use Rattle.code.specs.Codes.{Codebook, Apart}
 use Rattle.code.specs.Calls.{Within, Beyond}
 use Rattle.alphabet.proofs.Sums.{sum-same, sum-le, sum-add, sum-times}
 use Rattle.code.proofs.Rows.{length-listed, getD-listed}
-
--- what one place costs: 1 where nothing was read, 2 where another symbol was
-unfoldable pub price : ℕ → ℕ → ℕ
-price r w = cond (eqb r blank) 1 (cond (eqb r w) 0 2)
 
 -- 1 where two symbols differ
 unfoldable pub unlike : ℕ → ℕ → ℕ

@@ -37,6 +37,10 @@ blanks r = sum (length r) (λ i. faint (getD r i 0))
 abbrev pub cost : List ℕ → List ℕ → ℕ
 cost r w = 2 * wrongs r w + blanks r
 
+-- the cost of one cell against one symbol
+unfoldable pub price : ℕ → ℕ → ℕ
+price r w = cond (eqb r blank) 1 (cond (eqb r w) 0 2)
+
 -- the number of places in which two words differ
 abbrev pub differing : List ℕ → List ℕ → ℕ
 differing u v = sum (length u) (λ i. cond (eqb (getD u i 0) (getD v i 0)) 0 1)

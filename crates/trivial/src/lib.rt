@@ -18,6 +18,12 @@ pub struct Trivial<S> {
     pub symbols: PhantomData<S>,
 }
 
+impl<S: Alphabet> Trivial<S> {
+    pub const CODE: Trivial<S> = Trivial {
+        symbols: PhantomData,
+    };
+}
+
 pub impl<S: Alphabet> Code for Trivial<S> as TrivialCode {
     type Symbols = S;
 
