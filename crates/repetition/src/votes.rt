@@ -10,7 +10,7 @@ ghost use Rattle.repetition.specs.Votes.{Led};
 use code::BLANK;
 
 #[derive(Clone, Copy)]
-pub struct Vote {
+pub(crate) struct Vote {
     candidate: u16,
     lead: usize,
 }
@@ -43,7 +43,7 @@ fn cast(vote: Vote, cell: u16) -> Vote
 }
 
 // The one symbol whose row can cost less than the number of the cells.
-pub fn elect(received: &[u16]) -> u16
+pub(crate) fn elect(received: &[u16]) -> u16
     ensures others { λ r. ⌜ ((v : ℕ) → v ≢ r → length (now (received .entry)) ≤ cost (now (received .entry)) (replicate (length (now (received .entry))) v)) ⌝ }
     ensures symbol { λ r. ⌜ ((q : ℕ) → 0 < q → ((i : ℕ) → i < length (now (received .entry)) → good Received q (getD (now (received .entry)) i 0) ≡ true) → r < q) ⌝ }
 {
