@@ -2,7 +2,7 @@
 use mathlib.Core.Path.{_≡_, refl, sym, ap, _∙_}
 use mathlib.Core.Bool.{Bool, true, false, cond}
 use mathlib.Core.List.{List, [], _∷_, _++_}
-use mathlib.Core.Logic.{_≢_, _⊎_, inl, inr}
+use mathlib.Core.Logic.{_≢_, _⊎_, inl, inr, ⊎-elim}
 use Prim.Native.Nat.{ℕ, zero, suc, _+_, _≤_, _<_, min}
 use native.Mathlib.Omega.{arith}
 use native.Mathlib.Nat.{not-suc-le-zero, le-of-suc-le-suc}
@@ -101,3 +101,13 @@ zeroed-min m w =
       | inl l ↦ let e : min m (length w) ≡ m = omega arith in rw e (zeroed-front m w (omega arith))
       | inr g ↦ let e : min m (length w) ≡ length w = omega arith in rw e (zeroed-all m w g ∙ zeroed-front (length w) w (omega arith))
     ]
+
+-- ---- two rows are equal or not
+pub equal-or-not : (u v : List ℕ) → (u ≡ v) ⊎ (u ≢ v)
+equal-or-not [] [] = inl refl
+equal-or-not [] (y ∷ v) = inr (λ e. let z : _≡_ {A = ℕ} 0 1 = cc in omega arith)
+equal-or-not (x ∷ u) [] = inr (λ e. let z : _≡_ {A = ℕ} 0 1 = cc in omega arith)
+equal-or-not (x ∷ u) (y ∷ v) =
+    ⊎-elim
+    (λ e. ⊎-elim (λ f. inl (cc)) (λ f. inr (λ g. let h : u ≡ v = cc in f h)) (equal-or-not u v))
+    (λ f. inr (λ g. let h : x ≡ y = cc in f h)) (cases-eq x y)

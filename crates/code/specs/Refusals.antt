@@ -4,6 +4,7 @@ use mathlib.Core.Bool.{Bool, cond, _||_}
 use Prim.Native.Nat.{ℕ}
 use lib.ListN.{length}
 use lib.Dec.{ltb, eqb}
+use lib.Chars.{codes}
 use Rattle.std.specs.declared.result.Result.{Result}
 use Rattle.std.specs.declared.result.Result.the-variants.{Ok, Err}
 use Rattle.std.specs.shelf.Lists.{leading}
@@ -22,6 +23,17 @@ number Lost = 6
 number OffSheet = 7
 number Unset = 8
 number Garbled = 9
+
+abbrev pub word : Reason → List ℕ
+word Oversize = codes "Oversize"
+word Misfit = codes "Misfit"
+word WrongTray = codes "Wrong tray"
+word Cramped = codes "Cramped"
+word Smudge = codes "Smudge"
+word Lost = codes "Lost"
+word OffSheet = codes "Off sheet"
+word Unset = codes "Unset"
+word Garbled = codes "Garbled"
 
 abbrev pub refusal : Reason → ℕ → Refusal
 refusal r p = record { reason = r; place = p }

@@ -3,7 +3,7 @@ ghost use mathlib.Core.Path.{_≡_};
 ghost use Prim.Native.Nat.{_≤_};
 ghost use Rattle.std.specs.Vec.{made};
 ghost use lib.ListN.{length};
-ghost use Rattle.code.specs.Refusals.{number, refusal, sized, read-sizes, judge-sizes, encode-sizes, take-sizes};
+ghost use Rattle.code.specs.Refusals.{number, word, refusal, sized, read-sizes, judge-sizes, encode-sizes, take-sizes};
 
 // The longest code whose calls are answered, and the most working cells that one may ask for.
 pub const MAX_LENGTH: usize = 4096;
@@ -36,6 +36,22 @@ impl Reason {
         ensures { λ r. ⌜ r ≡ number self ⌝ }
     {
         self as u8
+    }
+
+    pub fn word(self) -> &'static str
+        ensures { λ r. ⌜ now r ≡ word self ⌝ }
+    {
+        match self {
+            Reason::Oversize => "Oversize",
+            Reason::Misfit => "Misfit",
+            Reason::WrongTray => "Wrong tray",
+            Reason::Cramped => "Cramped",
+            Reason::Smudge => "Smudge",
+            Reason::Lost => "Lost",
+            Reason::OffSheet => "Off sheet",
+            Reason::Unset => "Unset",
+            Reason::Garbled => "Garbled",
+        }
     }
 
     pub fn at(self, place: usize) -> Refusal
