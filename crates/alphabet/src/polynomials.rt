@@ -20,7 +20,11 @@ fn raise(a: u16) -> u16
     ensures below { λ r. ⌜ r < 16 ⌝ }
 {
     let shifted = a << 1;
-    if shifted < 16 { shifted } else { shifted ^ MODULUS }
+    if shifted < 16 {
+        shifted
+    } else {
+        shifted ^ MODULUS
+    }
 }
 
 // the polynomial where the lowest bit is set, else nothing
@@ -49,8 +53,9 @@ pub impl Alphabet for Sixteen as SixteenAlphabet {
         (a % Self::Q) ^ (b % Self::Q)
     }
 
-    fn negate(a: u16) -> u16 {
-        a % Self::Q
+    // over two elements every polynomial is its own negative
+    fn negate(symbol: u16) -> u16 {
+        symbol % Self::Q
     }
 
     fn multiply(a: u16, b: u16) -> u16

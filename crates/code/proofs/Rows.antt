@@ -3,12 +3,12 @@ use mathlib.Core.Path.{_≡_, refl, sym, ap, _∙_}
 use mathlib.Core.Bool.{Bool, true, false, cond}
 use mathlib.Core.List.{List, [], _∷_, _++_}
 use mathlib.Core.Logic.{_≢_, _⊎_, inl, inr, ⊎-elim}
-use Prim.Native.Nat.{ℕ, zero, suc, _+_, _≤_, _<_, min}
+use Prim.Native.Nat.{ℕ, zero, suc, _+_, _-_, _≤_, _<_, min}
 use native.Mathlib.Omega.{arith}
 use native.Mathlib.Nat.{not-suc-le-zero, le-of-suc-le-suc}
-use lib.ListN.{length, getD, drop, replicate, length-replicate, getD-replicate}
+use lib.ListN.{length, getD, drop, replicate, length-append, length-replicate, getD-replicate}
 use Rattle.std.specs.shelf.Lists.{leading}
-use Rattle.std.proofs.shelf.Lists.{drop-all, append-nil, ext-getD, getD-past}
+use Rattle.std.proofs.shelf.Lists.{drop-at, drop-all, append-nil, ext-getD, getD-past}
 use Rattle.std.proofs.shelf.Tests.{cases-eq, cases-lt}
 use Rattle.std.proofs.shelf.Counted.{length-map-counting, getD-map-counting, fill-by-all}
 use Rattle.code.specs.Cells.{listed, zeroed}
@@ -111,3 +111,12 @@ equal-or-not (x ∷ u) (y ∷ v) =
     ⊎-elim
     (λ e. ⊎-elim (λ f. inl (cc)) (λ f. inr (λ g. let h : u ≡ v = cc in f h)) (equal-or-not u v))
     (λ f. inr (λ g. let h : x ≡ y = cc in f h)) (cases-eq x y)
+
+-- what stood in the cells that are zeroed does not matter
+pub zeroed-over : (n : ℕ) (xs w : List ℕ) → length xs ≡ n → n ≤ length w → zeroed n (xs ++ drop (n - 0) w) ≡ zeroed n w
+zeroed-over n xs w e h =
+    let z : n - 0 ≡ n = omega arith in
+    let room : n ≤ length (xs ++ drop (n - 0) w) = omega (arith, length-append xs (drop (n - 0) w)) in
+    zeroed-front n (xs ++ drop (n - 0) w) room
+    ∙ ap (λ ys. replicate n 0 ++ ys) (drop-at xs (drop (n - 0) w) n e ∙ ap (λ j. drop j w) z)
+    ∙ sym (zeroed-front n w h)

@@ -60,7 +60,12 @@ pub trait Code {
         ensures { λ r. ⌜ r ≡ answered-place (codebook (now (self .entry))) (layout (now (self .entry))) i ⌝ };
 
     // Hands over the one word that costs less than d, with its counts.
-    fn read(&self, received: &[u16], answer: &mut [u16], work: &mut [u16]) -> Result<Counts, Refusal>
+    fn read(
+        &self,
+        received: &[u16],
+        answer: &mut [u16],
+        work: &mut [u16],
+    ) -> Result<Counts, Refusal>
         ensures { λ r. ⌜ Reads (codebook (now (self .entry))) (now (received .entry)) (now (answer .entry)) (now (answer .exit)) (now (work .entry)) (now (work .exit)) r ⌝ };
 
     // Says whether the cells are a word.

@@ -7,6 +7,7 @@ ghost use Rattle.code.specs.Refusals.{number, word, refusal, sized, read-sizes
 
 // The longest code whose calls are answered, and the most working cells that one may ask for.
 pub const MAX_LENGTH: usize = 4096;
+
 pub const MAX_WORKING: usize = 16384;
 
 #[derive(Clone, Copy)]
@@ -100,7 +101,13 @@ fn check_sizes(n: usize, working: usize, lent: Sizes, asked: Sizes) -> Result<()
 }
 
 // The sizes of a read.
-pub fn check_read(n: usize, working: usize, received: &[u16], answer: &[u16], work: &[u16]) -> Result<(), Refusal>
+pub fn check_read(
+    n: usize,
+    working: usize,
+    received: &[u16],
+    answer: &[u16],
+    work: &[u16],
+) -> Result<(), Refusal>
     ensures is { λ r. ⌜ r ≡ read-sizes n working (now (received .entry)) (now (answer .entry)) (now (work .entry)) ⌝ }
     ensures passed { λ r. ⌜ made r (λ _. (length (now (received .entry)) ≡ n) × (length (now (answer .entry)) ≡ n) × (working ≤ length (now (work .entry)))) ⌝ }
 {
@@ -161,7 +168,13 @@ pub fn check_encode(
 }
 
 // The sizes of a take-out, which needs no working cells; that the code itself asks for too many is refused all the same.
-pub fn check_take_out(n: usize, k: usize, working: usize, word: &[u16], answer: &[u16]) -> Result<(), Refusal>
+pub fn check_take_out(
+    n: usize,
+    k: usize,
+    working: usize,
+    word: &[u16],
+    answer: &[u16],
+) -> Result<(), Refusal>
     ensures is { λ r. ⌜ r ≡ take-sizes n k working (now (word .entry)) (now (answer .entry)) ⌝ }
     ensures passed { λ r. ⌜ made r (λ _. (length (now (word .entry)) ≡ n) × (length (now (answer .entry)) ≡ k)) ⌝ }
 {

@@ -76,7 +76,11 @@ fn show_spoils(rt: &LibcRuntime, printed: &[u16], received: &[u16]) -> io::Resul
 
 fn show_forecast(rt: &LibcRuntime, counts: Counts, d: usize, forecast: Forecast) -> io::Result<()> {
     let cost = counts.wrong.saturating_mul(2).saturating_add(counts.blank);
-    print!(rt, "  {} wrong and {} blank cost {cost}, and d is {d}: ", counts.wrong, counts.blank)?;
+    print!(
+        rt,
+        "  {} wrong and {} blank cost {cost}, and d is {d}: ",
+        counts.wrong, counts.blank
+    )?;
     match forecast {
         Forecast::Returns => println!(rt, "it must come back"),
         Forecast::GetsLost => println!(rt, "it must be lost"),
@@ -106,21 +110,40 @@ fn foretell<C: Code>(
     Ok(())
 }
 
-fn show_word<C: Code>(rt: &LibcRuntime, code: &C, word: &[u16], counts: Counts) -> Result<(), Fault> {
+fn show_word<C: Code>(
+    rt: &LibcRuntime,
+    code: &C,
+    word: &[u16],
+    counts: Counts,
+) -> Result<(), Fault> {
     let mut message = vec![in rt.alloc(); 0u16; code.message_length()]?;
     code.take_out(word, &mut message)?;
     show_cells(rt, "read as", word)?;
-    println!(rt, "  with {} wrong and {} blank", counts.wrong, counts.blank)?;
+    println!(
+        rt,
+        "  with {} wrong and {} blank",
+        counts.wrong, counts.blank
+    )?;
     show_cells(rt, "message", &message)?;
     Ok(())
 }
 
 fn show_refusal(rt: &LibcRuntime, refusal: Refusal) -> Result<(), Fault> {
-    println!(rt, "  refused: {} {}", refusal.reason.number(), refusal.reason.word())?;
+    println!(
+        rt,
+        "  refused: {} {}",
+        refusal.reason.number(),
+        refusal.reason.word()
+    )?;
     Ok(())
 }
 
-fn show_read<C: Code>(rt: &LibcRuntime, code: &C, received: &[u16], work: &mut [u16]) -> Result<(), Fault> {
+fn show_read<C: Code>(
+    rt: &LibcRuntime,
+    code: &C,
+    received: &[u16],
+    work: &mut [u16],
+) -> Result<(), Fault> {
     let mut word = vec![in rt.alloc(); 0u16; code.length()]?;
     match code.read(received, &mut word, work) {
         Ok(counts) => show_word(rt, code, &word, counts),
@@ -161,15 +184,33 @@ fn blank(place: usize) -> Spoil {
 
 fn repetition_rows(rt: &LibcRuntime) -> Result<(), Fault> {
     let five = Repetition::<Digits>::new(5)?;
-    exercise(rt, "Repetition 5 over Digits", &five, &[4], &[wrong(1, 7), blank(3)])?;
+    exercise(
+        rt,
+        "Repetition 5 over Digits",
+        &five,
+        &[4],
+        &[wrong(1, 7), blank(3)],
+    )?;
     let three = Repetition::<Digits>::new(3)?;
-    exercise(rt, "Repetition 3 over Digits", &three, &[4], &[wrong(1, 7), blank(2)])
+    exercise(
+        rt,
+        "Repetition 3 over Digits",
+        &three,
+        &[4],
+        &[wrong(1, 7), blank(2)],
+    )
 }
 
 fn sum_rows(rt: &LibcRuntime) -> Result<(), Fault> {
     let five = Sum::<Digits>::new(5)?;
     exercise(rt, "Sum 5 over Digits", &five, &[1, 2, 3, 4], &[blank(2)])?;
-    exercise(rt, "Sum 5 over Digits", &five, &[1, 2, 3, 4], &[wrong(4, 1)])?;
+    exercise(
+        rt,
+        "Sum 5 over Digits",
+        &five,
+        &[1, 2, 3, 4],
+        &[wrong(4, 1)],
+    )?;
     let four = Sum::<Sixteen>::new(4)?;
     exercise(rt, "Sum 4 over Sixteen", &four, &[9, 13, 7], &[blank(0)])
 }

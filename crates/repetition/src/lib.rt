@@ -29,6 +29,8 @@ mod votes;
 
 const MAX_REPEATS: usize = 64;
 
+const WORKING_CELLS: usize = 0;
+
 // n equal symbols. A value with another n means the trivial code.
 #[derive(Drop)]
 pub struct Repetition<S> {
@@ -68,7 +70,7 @@ fn read_repeated<S: Alphabet>(
     requires high { ⌜ n ≤ 64 ⌝ }
     ensures { λ r. ⌜ Reads (repeats (S·Alphabet .size) n) (now (received .entry)) (now (answer .entry)) (now (answer .exit)) (now (work .entry)) (now (work .exit)) r ⌝ }
 {
-    check_read(n, 0, received, answer, work)?;
+    check_read(n, WORKING_CELLS, received, answer, work)?;
     check_cells(received, S::size(), Content::Received)?;
     let symbol = votes::elect(received);
     let word = [symbol; MAX_REPEATS];
@@ -85,7 +87,7 @@ fn judge_repeated<S: Alphabet>(n: usize, cells: &[u16], work: &mut [u16]) -> Res
     requires high { ⌜ n ≤ 64 ⌝ }
     ensures { λ r. ⌜ Judges (repeats (S·Alphabet .size) n) (now (cells .entry)) (now (work .entry)) (now (work .exit)) r ⌝ }
 {
-    check_lawful(n, 0, cells, work)?;
+    check_lawful(n, WORKING_CELLS, cells, work)?;
     check_cells(cells, S::size(), Content::Word)?;
     for cell in cells {
         if *cell != cells[0] {
@@ -105,7 +107,7 @@ fn encode_repeated<S: Alphabet>(
     requires high { ⌜ n ≤ 64 ⌝ }
     ensures { λ r. ⌜ Encodes (repeats (S·Alphabet .size) n) first (now (message .entry)) (now (answer .entry)) (now (answer .exit)) (now (work .entry)) (now (work .exit)) r ⌝ }
 {
-    check_encode(n, 1, 0, message, answer, work)?;
+    check_encode(n, 1, WORKING_CELLS, message, answer, work)?;
     check_cells(message, S::size(), Content::Word)?;
     answer.fill(message[0]);
     Ok(())
@@ -116,7 +118,7 @@ fn take_repeated<S: Alphabet>(n: usize, word: &[u16], answer: &mut [u16]) -> Res
     requires high { ⌜ n ≤ 64 ⌝ }
     ensures { λ r. ⌜ Takes-out (repeats (S·Alphabet .size) n) first (now (word .entry)) (now (answer .entry)) (now (answer .exit)) r ⌝ }
 {
-    check_take_out(n, 1, 0, word, answer)?;
+    check_take_out(n, 1, WORKING_CELLS, word, answer)?;
     check_cells(word, S::size(), Content::Word)?;
     answer[0] = word[0];
     Ok(())
@@ -137,12 +139,13 @@ pub impl<S: Alphabet> Code for Repetition<S> as RepetitionCode {
         if is_repeatable(self.n) { 1 } else { 0 }
     }
 
+    // two different words differ everywhere
     fn distance(&self) -> usize {
-        if is_repeatable(self.n) { self.n } else { 1 }
+        self.length()
     }
 
     fn working_cells(&self) -> usize {
-        0
+        WORKING_CELLS
     }
 
     fn message_place(&self, i: usize) -> Option<usize> {
@@ -153,7 +156,12 @@ pub impl<S: Alphabet> Code for Repetition<S> as RepetitionCode {
         }
     }
 
-    fn read(&self, received: &[u16], answer: &mut [u16], work: &mut [u16]) -> Result<Counts, Refusal> {
+    fn read(
+        &self,
+        received: &[u16],
+        answer: &mut [u16],
+        work: &mut [u16],
+    ) -> Result<Counts, Refusal> {
         if is_repeatable(self.n) {
             read_repeated::<S>(self.n, received, answer, work)
         } else {

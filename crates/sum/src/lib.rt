@@ -29,6 +29,8 @@ mod scans;
 
 const MAX_SUMMANDS: usize = 64;
 
+const WORKING_CELLS: usize = 0;
+
 // n symbols that add up to 0. A value with another n means the trivial code.
 #[derive(Drop)]
 pub struct Sum<S> {
@@ -68,7 +70,7 @@ fn read_balanced<S: Alphabet>(
     requires high { ⌜ n ≤ 64 ⌝ }
     ensures { λ r. ⌜ Reads (balances (S·Alphabet .plus) (S·Alphabet .size) n) (now (received .entry)) (now (answer .entry)) (now (answer .exit)) (now (work .entry)) (now (work .exit)) r ⌝ }
 {
-    check_read(n, 0, received, answer, work)?;
+    check_read(n, WORKING_CELLS, received, answer, work)?;
     check_cells(received, S::size(), Content::Received)?;
     let scan = scan_cells::<S>(received);
     if scan.blanks > 1 {
@@ -91,7 +93,7 @@ fn judge_balanced<S: Alphabet>(n: usize, cells: &[u16], work: &mut [u16]) -> Res
     requires high { ⌜ n ≤ 64 ⌝ }
     ensures { λ r. ⌜ Judges (balances (S·Alphabet .plus) (S·Alphabet .size) n) (now (cells .entry)) (now (work .entry)) (now (work .exit)) r ⌝ }
 {
-    check_lawful(n, 0, cells, work)?;
+    check_lawful(n, WORKING_CELLS, cells, work)?;
     check_cells(cells, S::size(), Content::Word)?;
     Ok(scan_cells::<S>(cells).total == 0)
 }
@@ -106,7 +108,7 @@ fn encode_balanced<S: Alphabet>(
     requires high { ⌜ n ≤ 64 ⌝ }
     ensures { λ r. ⌜ Encodes (balances (S·Alphabet .plus) (S·Alphabet .size) n) (but-last n) (now (message .entry)) (now (answer .entry)) (now (answer .exit)) (now (work .entry)) (now (work .exit)) r ⌝ }
 {
-    check_encode(n, n - 1, 0, message, answer, work)?;
+    check_encode(n, n - 1, WORKING_CELLS, message, answer, work)?;
     check_cells(message, S::size(), Content::Word)?;
     answer[0..n - 1].copy_from_slice(message);
     answer[n - 1] = S::negate(scan_cells::<S>(message).total);
@@ -118,7 +120,7 @@ fn take_balanced<S: Alphabet>(n: usize, word: &[u16], answer: &mut [u16]) -> Res
     requires high { ⌜ n ≤ 64 ⌝ }
     ensures { λ r. ⌜ Takes-out (balances (S·Alphabet .plus) (S·Alphabet .size) n) (but-last n) (now (word .entry)) (now (answer .entry)) (now (answer .exit)) r ⌝ }
 {
-    check_take_out(n, n - 1, 0, word, answer)?;
+    check_take_out(n, n - 1, WORKING_CELLS, word, answer)?;
     check_cells(word, S::size(), Content::Word)?;
     answer.copy_from_slice(&word[0..n - 1]);
     Ok(())
@@ -144,7 +146,7 @@ pub impl<S: Alphabet> Code for Sum<S> as SumCode {
     }
 
     fn working_cells(&self) -> usize {
-        0
+        WORKING_CELLS
     }
 
     fn message_place(&self, i: usize) -> Option<usize> {
@@ -155,7 +157,12 @@ pub impl<S: Alphabet> Code for Sum<S> as SumCode {
         }
     }
 
-    fn read(&self, received: &[u16], answer: &mut [u16], work: &mut [u16]) -> Result<Counts, Refusal> {
+    fn read(
+        &self,
+        received: &[u16],
+        answer: &mut [u16],
+        work: &mut [u16],
+    ) -> Result<Counts, Refusal> {
         if is_summable(self.n) {
             read_balanced::<S>(self.n, received, answer, work)
         } else {

@@ -111,7 +111,12 @@ pub fn lawful_fails<C: Code>(
 }
 
 // A message is encoded as a word, which is lawful and gives the message back.
-pub fn encodes_as<C: Code>(heap: Global, code: &C, message: &[u16], word: &[u16]) -> Result<(), Fail> {
+pub fn encodes_as<C: Code>(
+    heap: Global,
+    code: &C,
+    message: &[u16],
+    word: &[u16],
+) -> Result<(), Fail> {
     let asked = code.working_cells();
     let mut answer = vec![in heap; OLD; word.len()]?;
     let mut work = vec![in heap; OLD; asked.saturating_add(SPARE)]?;
@@ -143,7 +148,12 @@ pub fn encode_fails<C: Code>(
     check_work(&work, code.working_cells(), !is_size(reason))
 }
 
-pub fn takes_out<C: Code>(heap: Global, code: &C, word: &[u16], message: &[u16]) -> Result<(), Fail> {
+pub fn takes_out<C: Code>(
+    heap: Global,
+    code: &C,
+    word: &[u16],
+    message: &[u16],
+) -> Result<(), Fail> {
     let mut answer = vec![in heap; OLD; message.len()]?;
     let Ok(()) = code.take_out(word, &mut answer) else {
         return Err(Fail::new("a take-out was refused"));
@@ -168,7 +178,13 @@ pub fn take_out_fails<C: Code>(
 }
 
 // n, k, d and the number of working cells
-pub fn has_numbers<C: Code>(code: &C, n: usize, k: usize, d: usize, working: usize) -> Result<(), Fail> {
+pub fn has_numbers<C: Code>(
+    code: &C,
+    n: usize,
+    k: usize,
+    d: usize,
+    working: usize,
+) -> Result<(), Fail> {
     check_eq(code.length(), n)?;
     check_eq(code.message_length(), k)?;
     check_eq(code.distance(), d)?;

@@ -95,10 +95,34 @@ fn is_trivial<C: Code>(heap: Global, code: &C) -> Result<(), Fail> {
 fn numbers_that_break_a_limit(rt: LibcRuntime) -> Result<(), Fail> {
     let heap = rt.alloc();
     is_trivial(heap, &Trivial::<Bits>::CODE)?;
-    is_trivial(heap, &Repetition::<Digits> { n: 0, symbols: PhantomData })?;
-    is_trivial(heap, &Repetition::<Digits> { n: 65, symbols: PhantomData })?;
-    is_trivial(heap, &Sum::<Sixteen> { n: 1, symbols: PhantomData })?;
-    is_trivial(heap, &Sum::<Sixteen> { n: 65, symbols: PhantomData })
+    is_trivial(
+        heap,
+        &Repetition::<Digits> {
+            n: 0,
+            symbols: PhantomData,
+        },
+    )?;
+    is_trivial(
+        heap,
+        &Repetition::<Digits> {
+            n: 65,
+            symbols: PhantomData,
+        },
+    )?;
+    is_trivial(
+        heap,
+        &Sum::<Sixteen> {
+            n: 1,
+            symbols: PhantomData,
+        },
+    )?;
+    is_trivial(
+        heap,
+        &Sum::<Sixteen> {
+            n: 65,
+            symbols: PhantomData,
+        },
+    )
 }
 
 // Sizes one off and smudges, of any code over Digits with words of four symbols and messages of k of them.

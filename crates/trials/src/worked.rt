@@ -47,7 +47,14 @@ fn repeated_rows(rt: LibcRuntime) -> Result<(), Fail> {
     reads_as(heap, &three, &[4, BLANK, BLANK], &[4, 4, 4], 0, 2)?;
     reads_as(heap, &three, &[0, 9, 0], &[0, 0, 0], 1, 0)?;
     read_fails(heap, &three, &[4, 7, BLANK], (3, 0), Reason::Lost, 0)?;
-    read_fails(heap, &three, &[BLANK, BLANK, BLANK], (3, 1), Reason::Lost, 0)?;
+    read_fails(
+        heap,
+        &three,
+        &[BLANK, BLANK, BLANK],
+        (3, 1),
+        Reason::Lost,
+        0,
+    )?;
     read_fails(heap, &three, &[1, 2, 3], (3, 0), Reason::Lost, 0)?;
     encodes_as(heap, &three, &[4], &[4, 4, 4])?;
     let Ok(one) = Repetition::<Bits>::new(1) else {
@@ -67,7 +74,14 @@ fn balanced_rows(rt: LibcRuntime) -> Result<(), Fail> {
     reads_as(heap, &five, &[1, 2, 3, 4, BLANK], &[1, 2, 3, 4, 0], 0, 1)?;
     reads_as(heap, &five, &[1, 2, 3, 4, 0], &[1, 2, 3, 4, 0], 0, 0)?;
     read_fails(heap, &five, &[1, 2, 3, 4, 1], (5, 0), Reason::Lost, 0)?;
-    read_fails(heap, &five, &[1, BLANK, BLANK, 4, 0], (5, 3), Reason::Lost, 0)?;
+    read_fails(
+        heap,
+        &five,
+        &[1, BLANK, BLANK, 4, 0],
+        (5, 3),
+        Reason::Lost,
+        0,
+    )?;
     encodes_as(heap, &five, &[1, 2, 3, 4], &[1, 2, 3, 4, 0])?;
     let Ok(four) = Sum::<Sixteen>::new(4) else {
         return Err(Fail::new("Sum 4"));

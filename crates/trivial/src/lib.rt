@@ -13,6 +13,14 @@ use code::check_read;
 use code::check_take_out;
 use std::marker::PhantomData;
 
+const LENGTH: usize = 1;
+
+const MESSAGE_LENGTH: usize = 0;
+
+const DISTANCE: usize = 1;
+
+const WORKING_CELLS: usize = 0;
+
 #[derive(Drop)]
 pub struct Trivial<S> {
     pub symbols: PhantomData<S>,
@@ -32,27 +40,32 @@ pub impl<S: Alphabet> Code for Trivial<S> as TrivialCode {
     ghost layout = { λ c. no-message };
 
     fn length(&self) -> usize {
-        1
+        LENGTH
     }
 
     fn message_length(&self) -> usize {
-        0
+        MESSAGE_LENGTH
     }
 
     fn distance(&self) -> usize {
-        1
+        DISTANCE
     }
 
     fn working_cells(&self) -> usize {
-        0
+        WORKING_CELLS
     }
 
     fn message_place(&self, i: usize) -> Option<usize> {
         None
     }
 
-    fn read(&self, received: &[u16], answer: &mut [u16], work: &mut [u16]) -> Result<Counts, Refusal> {
-        check_read(1, 0, received, answer, work)?;
+    fn read(
+        &self,
+        received: &[u16],
+        answer: &mut [u16],
+        work: &mut [u16],
+    ) -> Result<Counts, Refusal> {
+        check_read(LENGTH, WORKING_CELLS, received, answer, work)?;
         check_cells(received, S::size(), Content::Received)?;
         if received[0] != 0 {
             return Err(Reason::Lost.at(0));
@@ -62,20 +75,20 @@ pub impl<S: Alphabet> Code for Trivial<S> as TrivialCode {
     }
 
     fn lawful(&self, cells: &[u16], work: &mut [u16]) -> Result<bool, Refusal> {
-        check_lawful(1, 0, cells, work)?;
+        check_lawful(LENGTH, WORKING_CELLS, cells, work)?;
         check_cells(cells, S::size(), Content::Word)?;
         Ok(cells[0] == 0)
     }
 
     fn encode(&self, message: &[u16], answer: &mut [u16], work: &mut [u16]) -> Result<(), Refusal> {
-        check_encode(1, 0, 0, message, answer, work)?;
+        check_encode(LENGTH, MESSAGE_LENGTH, WORKING_CELLS, message, answer, work)?;
         check_cells(message, S::size(), Content::Word)?;
-        answer[0] = 0;
+        answer.fill(0);
         Ok(())
     }
 
     fn take_out(&self, word: &[u16], answer: &mut [u16]) -> Result<(), Refusal> {
-        check_take_out(1, 0, 0, word, answer)?;
+        check_take_out(LENGTH, MESSAGE_LENGTH, WORKING_CELLS, word, answer)?;
         check_cells(word, S::size(), Content::Word)?;
         Ok(())
     }

@@ -30,10 +30,11 @@ returns-then-scan-ne0 g c =
     let r : List ℕ = c .args .received .now in
     let clean : Clean (g .S·Alphabet .size) r = subst (λ (q : ℕ). Clean q r) (c .size .ensures) (c .in-Continue-check-cells .ensures tt .passed) in
     reads-passed {a' = c .args .answer .now} (c .size .ensures)
-    (c .in-Continue-check-read .ensures tt .is) (c .in-Continue-check-cells .ensures tt .is) refl
-    (c .at-then-scan-ne0 .ensures,
-    unbalanced (g .S·Alphabet·met .ring) (c .args .n) (c .pre .low) r (c .in-Continue-check-read .ensures tt .passed .0) clean (c .scan-cells-scan .result) (c .scan-cells-scan .ensures .is) (omega arith) (c .if-scan-ne0 .taken),
-    refl)
+    (c .in-Continue-check-read .ensures tt .is) (c .in-Continue-check-cells .ensures tt .is) refl (
+      c .at-then-scan-ne0 .ensures,
+      unbalanced (g .S·Alphabet·met .ring) (c .args .n) (c .pre .low) r (c .in-Continue-check-read .ensures tt .passed .0) clean (c .scan-cells-scan .result) (c .scan-cells-scan .ensures .is) (omega arith) (c .if-scan-ne0 .taken),
+      refl,
+    )
 
 pub returns : need.returns
 returns g c =
