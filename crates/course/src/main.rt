@@ -1,4 +1,6 @@
 // The course: messages are printed as rows, spoiled and read again, and each step is shown.
+use alphabet::Bits;
+use alphabet::BitsAlphabet;
 use alphabet::Digits;
 use alphabet::DigitsAlphabet;
 use alphabet::Sixteen;
@@ -16,6 +18,8 @@ use std::alloc::AllocError;
 use std::io;
 use sum::Sum;
 use sum::SumCode;
+use table::Table;
+use table::TableCode;
 
 #[derive(Drop)]
 enum Fault {
@@ -215,9 +219,18 @@ fn sum_rows(rt: &LibcRuntime) -> Result<(), Fault> {
     exercise(rt, "Sum 4 over Sixteen", &four, &[9, 13, 7], &[blank(0)])
 }
 
+fn table_rows(rt: &LibcRuntime) -> Result<(), Fault> {
+    let mut table = Table::<Bits>::EMPTY;
+    table.fill(4, 3, &[1, 0, 1, 1, 1, 1, 1, 1, 0, 0, 1, 1])?;
+    let title = "Table over Bits, rows 101, 111, 110, 011";
+    exercise(rt, title, &table, &[1, 0, 1, 1], &[blank(0), blank(1)])?;
+    exercise(rt, title, &table, &[1, 0, 1, 1], &[blank(0), wrong(6, 1)])
+}
+
 fn main(rt: LibcRuntime) -> Result<(), Fault> {
     println!(rt, "Exercise one: a spoiled row comes back, or is lost.")?;
     println!(rt, "")?;
     repetition_rows(&rt)?;
-    sum_rows(&rt)
+    sum_rows(&rt)?;
+    table_rows(&rt)
 }

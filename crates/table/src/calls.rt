@@ -78,7 +78,7 @@ fn read_table<S: Alphabet>(
     let n = k + m;
     check_read(n, n, received, answer, work)?;
     let verdict = read_nearest::<S>(k, m, rows, received, answer, &mut work[0..n]);
-    zero_front(work, n);
+    zero_front(work, k + m);
     verdict
 }
 
@@ -181,11 +181,8 @@ pub impl<S: Alphabet> Code for Table<S> as TableCode {
     }
 
     fn message_length(&self) -> usize {
-        if is_tabulable::<S>(self.k, self.m) {
-            self.k
-        } else {
-            0
-        }
+        let k = self.k;
+        if is_tabulable::<S>(k, self.m) { k } else { 0 }
     }
 
     fn distance(&self) -> usize

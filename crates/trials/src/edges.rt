@@ -8,6 +8,7 @@ use crate::calls::read_fails;
 use crate::calls::reads_as;
 use crate::calls::same_refusal;
 use crate::calls::take_out_fails;
+use alphabet::Alphabet;
 use alphabet::Bits;
 use alphabet::BitsAlphabet;
 use alphabet::Digits;
@@ -24,6 +25,8 @@ use std::marker::PhantomData;
 use std::test::*;
 use sum::Sum;
 use sum::SumCode;
+use table::Table;
+use table::TableCode;
 use trivial::Trivial;
 use trivial::TrivialCode;
 
@@ -163,4 +166,81 @@ fn sizes_and_cells(rt: LibcRuntime) -> Result<(), Fail> {
     encode_fails(heap, &balanced, &[1, 2, BLANK], (4, 1), Reason::Smudge, 2)?;
     is_lawful(heap, &equal, &[3, 3, 3, 4], false)?;
     is_lawful(heap, &balanced, &[3, 3, 3, 2], false)
+}
+
+// A filled table, or the refusal; a refused table stays as it was.
+fn no_table<S: Alphabet>(
+    k: usize,
+    m: usize,
+    coefficients: &[u16],
+    reason: Reason,
+    place: usize,
+) -> Result<(), Fail> {
+    let mut table = Table::<S> {
+        k: 3,
+        m: 7,
+        rows: [9; 128],
+        symbols: PhantomData,
+    };
+    match table.fill(k, m, coefficients) {
+        Ok(()) => Err(Fail::new("a table was filled")),
+        Err(refusal) => {
+            same_refusal(refusal, reason, place)?;
+            check(table.k == 3 && table.m == 7 && table.rows[0] == 9 && table.rows[127] == 9)
+        }
+    }
+}
+
+fn is_table<S: Alphabet>(k: usize, m: usize, coefficients: &[u16], d: usize) -> Result<(), Fail> {
+    let mut table = Table::<S>::EMPTY;
+    let Ok(()) = table.fill(k, m, coefficients) else {
+        return Err(Fail::new("a table was refused"));
+    };
+    check_eq(table.length(), k.saturating_add(m))?;
+    check_eq(table.message_length(), k)?;
+    check_eq(table.distance(), d)?;
+    check_eq(table.working_cells(), table.length())
+}
+
+#[test]
+fn tables() -> Result<(), Fail> {
+    let ones = [1; 128];
+    is_table::<Digits>(4, 1, &[1, 1, 1, 1], 2)?;
+    no_table::<Digits>(5, 1, &[1, 1, 1, 1, 1], Reason::Unset, 0)?;
+    is_table::<Sixteen>(1, 16, &ones[0..16], 17)?;
+    no_table::<Sixteen>(5, 1, &ones[0..5], Reason::Unset, 0)?;
+    is_table::<Bits>(8, 16, &ones, 2)?;
+    no_table::<Bits>(9, 1, &ones[0..9], Reason::Unset, 0)?;
+    no_table::<Bits>(0, 1, &[], Reason::Unset, 0)?;
+    no_table::<Bits>(1, 0, &[], Reason::Unset, 0)?;
+    no_table::<Bits>(1, 17, &ones[0..17], Reason::Unset, 0)?;
+    no_table::<Bits>(9, 17, &[2], Reason::Unset, 0)?;
+    no_table::<Bits>(2, 2, &[1, 1, 1], Reason::Misfit, 0)?;
+    no_table::<Bits>(2, 2, &[2, 1, 1, 1, 1], Reason::Misfit, 0)?;
+    no_table::<Bits>(2, 2, &[2, 1, 1, 2], Reason::Smudge, 0)?;
+    no_table::<Bits>(2, 2, &[1, 1, 1, BLANK], Reason::Smudge, 3)
+}
+
+#[test]
+fn table_sizes_and_cells(rt: LibcRuntime) -> Result<(), Fail> {
+    let heap = rt.alloc();
+    let mut code = Table::<Digits>::EMPTY;
+    is_trivial(heap, &code)?;
+    let Ok(()) = code.fill(2, 2, &[1, 2, 3, 4]) else {
+        return Err(Fail::new("a table was refused"));
+    };
+    has_numbers(&code, 4, 2, 2, 4)?;
+    refuses_sizes(heap, &code)?;
+    read_fails(heap, &code, &[0, 0, 0, 400], (4, 3), Reason::Cramped, 0)?;
+    lawful_fails(heap, &code, &[0, 0, 0, 400], 3, Reason::Cramped, 0)?;
+    encode_fails(heap, &code, &[400, 0], (4, 3), Reason::Cramped, 0)?;
+    read_fails(heap, &code, &[10, BLANK, 0, 11], (4, 4), Reason::Smudge, 0)?;
+    read_fails(heap, &code, &[9, BLANK, 0, 65534], (4, 6), Reason::Smudge, 3)?;
+    lawful_fails(heap, &code, &[9, BLANK, 0, 11], 5, Reason::Smudge, 1)?;
+    encode_fails(heap, &code, &[9, 10], (4, 4), Reason::Smudge, 1)?;
+    take_out_fails(heap, &code, &[9, 9, 9, BLANK], 2, Reason::Smudge, 3)?;
+    check_eq(code.message_place(1), Some(1))?;
+    check_eq(code.message_place(2), None)?;
+    encodes_as(heap, &code, &[1, 1], &[1, 1, 4, 6])?;
+    is_lawful(heap, &code, &[1, 1, 4, 7], false)
 }

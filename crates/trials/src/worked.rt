@@ -1,5 +1,6 @@
 // Worked examples of the alphabets, and of rows that come back or are lost.
 use crate::calls::encodes_as;
+use crate::calls::has_numbers;
 use crate::calls::read_fails;
 use crate::calls::reads_as;
 use alphabet::Alphabet;
@@ -16,6 +17,8 @@ use repetition::RepetitionCode;
 use std::test::*;
 use sum::Sum;
 use sum::SumCode;
+use table::Table;
+use table::TableCode;
 
 #[test]
 fn symbols() -> Result<(), Fail> {
@@ -88,4 +91,19 @@ fn balanced_rows(rt: LibcRuntime) -> Result<(), Fail> {
     };
     encodes_as(heap, &four, &[9, 13, 7], &[9, 13, 7, 3])?;
     reads_as(heap, &four, &[BLANK, 13, 7, 3], &[9, 13, 7, 3], 0, 1)
+}
+
+#[test]
+fn table_rows(rt: LibcRuntime) -> Result<(), Fail> {
+    let heap = rt.alloc();
+    let mut code = Table::<Bits>::EMPTY;
+    let Ok(()) = code.fill(4, 3, &[1, 0, 1, 1, 1, 1, 1, 1, 0, 0, 1, 1]) else {
+        return Err(Fail::new("the table was refused"));
+    };
+    has_numbers(&code, 7, 4, 3, 7)?;
+    let word = [1, 0, 1, 1, 0, 0, 0];
+    encodes_as(heap, &code, &[1, 0, 1, 1], &word)?;
+    reads_as(heap, &code, &[BLANK, BLANK, 1, 1, 0, 0, 0], &word, 0, 2)?;
+    reads_as(heap, &code, &[1, 0, 1, 1, 0, 1, 0], &word, 1, 0)?;
+    read_fails(heap, &code, &[BLANK, 0, 1, 1, 0, 0, 1], (7, 7), Reason::Lost, 0)
 }
