@@ -1,0 +1,8 @@
+-- The mathematics of products.
+pub mod Grids
+pub mod Averages
+pub mod Reach
+pub mod Products
+pub mod Messages
+pub mod Encoded
+pub mod Agreement

@@ -1,0 +1,4 @@
+-- The definitions that contracts cite.
+pub mod Grids
+pub mod Weights
+pub mod Agreement

@@ -1,0 +1,1 @@
+// The mathematics of products of codes: definitions and lemmas, and no code.

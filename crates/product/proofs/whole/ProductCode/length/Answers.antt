@@ -1,0 +1,10 @@
+use native.Mathlib.Omega.{arith}
+use mathlib.Core.Path.{_≡_, ap, _∙_}
+use Prim.Native.Nat.{ℕ, _*_, min}
+use Rattle.product.proofs.Places.{cap-mul-any}
+use Rattle.product.proofs.whole.ProductCode.length.Needs as need
+
+pub returns : need.returns
+returns g c =
+    let e = cap-mul-any (g .A·Code .codebook (c .args .self .now .columns) .n) (g .B·Code .codebook (c .args .self .now .rows) .n) 4097 (omega arith) in
+    cc
