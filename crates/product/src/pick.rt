@@ -1,10 +1,14 @@
 // The message places of a product, and what stands at them.
 ghost use mathlib.Core.Path.{_≡_};
+ghost use mathlib.Core.Bool.{cond};
 ghost use Prim.Native.Nat.{ℕ, _*_, _≤_, _<_};
+ghost use lib.Dec.{ltb};
 ghost use lib.ListN.{length};
 ghost use Rattle.code.specs.Codes.{taken};
 ghost use Rattle.algebra.specs.Grids.{grids, laid};
 ghost use Rattle.std.specs.Vec.{made};
+ghost use Rattle.std.specs.Slices.{found};
+ghost use Rattle.std.specs.declared.option.Option.the-variants.{Some, None};
 ghost use Rattle.code.specs.Cells.{good};
 ghost use Rattle.code.specs.declared.cells.Content.the-variants.{Word};
 ghost use Rattle.code.specs.Calls.{answered, answered-working, takes};
@@ -36,17 +40,24 @@ pub(crate) fn place_in<C: Code>(code: &C, i: usize) -> usize
     }
 }
 
-// The place of message symbol i of the product.
-pub(crate) fn place_of<A: Code, B: Code<Symbols = A::Symbols>>(columns: &A, rows: &B, i: usize) -> usize
-    requires small { ⌜ A·Code .codebook (now columns) .n * B·Code .codebook (now rows) .n ≤ 4096 ⌝ }
-    requires inside { ⌜ i < A·Code .layout (now columns) .k * B·Code .layout (now rows) .k ⌝ }
-    ensures { λ r. ⌜ (r ≡ laid (B·Code .codebook (now (rows .entry))) (A·Code .layout (now (columns .entry))) (B·Code .layout (now (rows .entry))) .place i) × (r < A·Code .codebook (now (columns .entry)) .n * B·Code .codebook (now (rows .entry)) .n) ⌝ }
+// The place of message symbol i of the product, combined from the factors' places: absent where either is.
+pub(crate) fn combine_places<A: Code, B: Code<Symbols = A::Symbols>>(
+    columns: &A,
+    rows: &B,
+    i: usize,
+) -> Option<usize>
+    requires { ⌜ A·Code .codebook (now columns) .n * B·Code .codebook (now rows) .n ≤ 4096 ⌝ }
+    ensures is { λ r. ⌜ r ≡ cond (ltb i (A·Code .layout (now (columns .entry)) .k * B·Code .layout (now (rows .entry)) .k)) (Some (laid (B·Code .codebook (now (rows .entry))) (A·Code .layout (now (columns .entry))) (B·Code .layout (now (rows .entry))) .place i)) None ⌝ }
+    ensures inside { λ r. ⌜ found r (λ p. p < A·Code .codebook (now (columns .entry)) .n * B·Code .codebook (now (rows .entry)) .n) ⌝ }
 {
     let n2 = length_of(rows);
     let k2 = message_length_of(rows);
-    let up = place_in(columns, i / k2);
-    let along = place_in(rows, i % k2);
-    up * n2 + along
+    if k2 == 0 {
+        return None;
+    }
+    let up = columns.message_place(i / k2)?;
+    let along = rows.message_place(i % k2)?;
+    Some(up * n2 + along)
 }
 
 // Copies what stands at the message places.
@@ -62,7 +73,9 @@ pub(crate) fn pick<A: Code, B: Code<Symbols = A::Symbols>>(
     ensures { λ _. ⌜ now (answer .exit) ≡ taken (laid (B·Code .codebook (now (rows .entry))) (A·Code .layout (now (columns .entry))) (B·Code .layout (now (rows .entry)))) (now (word .entry)) ⌝ }
 {
     for i in 0..answer.len() {
-        answer[i] = word[place_of(columns, rows, i)];
+        if let Some(place) = combine_places(columns, rows, i) {
+            answer[i] = word[place];
+        }
     }
 }
 

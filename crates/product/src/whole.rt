@@ -2,7 +2,7 @@
 ghost use mathlib.Core.Path.{_≡_};
 ghost use Rattle.algebra.specs.Grids.{grids, laid};
 use crate::judge::judge;
-use crate::pick::place_of;
+use crate::pick::combine_places;
 use crate::pick::take;
 use crate::pick::take_sizes;
 use crate::print::print;
@@ -10,6 +10,8 @@ use crate::print::encode_sizes;
 use crate::read::attempt;
 use code::Code;
 use code::Counts;
+use code::MAX_LENGTH;
+use code::MAX_WORKING;
 use code::Refusal;
 use code::check_lawful;
 use code::check_read;
@@ -40,39 +42,36 @@ pub impl<A: Code, B: Code<Symbols = A::Symbols>> Code for Product<A, B> as Produ
     fn length(&self) -> usize {
         let n1 = self.columns.length();
         let n2 = self.rows.length();
-        (n1 * n2).min(4097)
+        (n1 * n2).min(MAX_LENGTH + 1)
     }
 
     fn message_length(&self) -> usize {
         let k1 = self.columns.message_length();
         let k2 = self.rows.message_length();
-        (k1 * k2).min(4097)
+        (k1 * k2).min(MAX_LENGTH + 1)
     }
 
     fn distance(&self) -> usize {
         let d1 = self.columns.distance();
         let d2 = self.rows.distance();
-        (d1 * d2).min(4097)
+        (d1 * d2).min(MAX_LENGTH + 1)
     }
 
     fn working_cells(&self) -> usize {
-        if self.length() > 4096 {
-            return 16385;
+        if self.length() > MAX_LENGTH {
+            return MAX_WORKING + 1;
         }
         let n1 = self.columns.length();
         let n2 = self.rows.length();
         let w = self.columns.working_cells().max(self.rows.working_cells());
-        (n1 * n2 + n2 + 2 * n1.max(n2) + w).min(16385)
+        (n1 * n2 + n2 + 2 * n1.max(n2) + w).min(MAX_WORKING + 1)
     }
 
     fn message_place(&self, i: usize) -> Option<usize> {
-        if self.length() > 4096 {
+        if self.length() > MAX_LENGTH {
             return None;
         }
-        if i >= self.message_length() {
-            return None;
-        }
-        Some(place_of(&self.columns, &self.rows, i))
+        combine_places(&self.columns, &self.rows, i)
     }
 
     fn read(&self, received: &[u16], answer: &mut [u16], work: &mut [u16]) -> Result<Counts, Refusal> {
