@@ -12,8 +12,8 @@ use crate::read::columns_lawful;
 use crate::read::length_of;
 use alphabet::Alphabet;
 use code::Code;
-use code::Refusal;
 use code::Content;
+use code::Refusal;
 use code::check_cells;
 
 // Whether a line is a word.

@@ -16,8 +16,8 @@ ghost use Rattle.code.specs.Refusals.{take-sizes, clean};
 use crate::read::length_of;
 use alphabet::Alphabet;
 use code::Code;
-use code::Refusal;
 use code::Content;
+use code::Refusal;
 use code::check_cells;
 use code::check_take_out;
 

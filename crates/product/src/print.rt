@@ -17,8 +17,8 @@ use crate::read::length_of;
 use crate::read::put_column;
 use alphabet::Alphabet;
 use code::Code;
-use code::Refusal;
 use code::Content;
+use code::Refusal;
 use code::check_cells;
 use code::check_encode;
 

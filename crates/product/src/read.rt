@@ -15,10 +15,10 @@ ghost use Rattle.product.specs.Parts.{Ready, Taken, Symbols, Weighed, Fresh, T
 use alphabet::Alphabet;
 use code::BLANK;
 use code::Code;
+use code::Content;
 use code::Counts;
 use code::Reason;
 use code::Refusal;
-use code::Content;
 use code::check_cells;
 use code::count;
 

@@ -5,8 +5,8 @@ use crate::judge::judge;
 use crate::pick::combine_places;
 use crate::pick::take;
 use crate::pick::take_sizes;
-use crate::print::print;
 use crate::print::encode_sizes;
+use crate::print::print;
 use crate::read::attempt;
 use code::Code;
 use code::Counts;
@@ -74,7 +74,12 @@ pub impl<A: Code, B: Code<Symbols = A::Symbols>> Code for Product<A, B> as Produ
         combine_places(&self.columns, &self.rows, i)
     }
 
-    fn read(&self, received: &[u16], answer: &mut [u16], work: &mut [u16]) -> Result<Counts, Refusal> {
+    fn read(
+        &self,
+        received: &[u16],
+        answer: &mut [u16],
+        work: &mut [u16],
+    ) -> Result<Counts, Refusal> {
         let n = self.length();
         let w = self.working_cells();
         check_read(n, w, received, answer, work)?;

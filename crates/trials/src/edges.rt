@@ -235,7 +235,14 @@ fn table_sizes_and_cells(rt: LibcRuntime) -> Result<(), Fail> {
     lawful_fails(heap, &code, &[0, 0, 0, 400], 3, Reason::Cramped, 0)?;
     encode_fails(heap, &code, &[400, 0], (4, 3), Reason::Cramped, 0)?;
     read_fails(heap, &code, &[10, BLANK, 0, 11], (4, 4), Reason::Smudge, 0)?;
-    read_fails(heap, &code, &[9, BLANK, 0, 65534], (4, 6), Reason::Smudge, 3)?;
+    read_fails(
+        heap,
+        &code,
+        &[9, BLANK, 0, 65534],
+        (4, 6),
+        Reason::Smudge,
+        3,
+    )?;
     lawful_fails(heap, &code, &[9, BLANK, 0, 11], 5, Reason::Smudge, 1)?;
     encode_fails(heap, &code, &[9, 10], (4, 4), Reason::Smudge, 1)?;
     take_out_fails(heap, &code, &[9, 9, 9, BLANK], 2, Reason::Smudge, 3)?;

@@ -4,4 +4,6 @@ mod calls;
 #[cfg(test)]
 mod edges;
 #[cfg(test)]
+mod plates;
+#[cfg(test)]
 mod worked;

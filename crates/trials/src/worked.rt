@@ -105,5 +105,12 @@ fn table_rows(rt: LibcRuntime) -> Result<(), Fail> {
     encodes_as(heap, &code, &[1, 0, 1, 1], &word)?;
     reads_as(heap, &code, &[BLANK, BLANK, 1, 1, 0, 0, 0], &word, 0, 2)?;
     reads_as(heap, &code, &[1, 0, 1, 1, 0, 1, 0], &word, 1, 0)?;
-    read_fails(heap, &code, &[BLANK, 0, 1, 1, 0, 0, 1], (7, 7), Reason::Lost, 0)
+    read_fails(
+        heap,
+        &code,
+        &[BLANK, 0, 1, 1, 0, 0, 1],
+        (7, 7),
+        Reason::Lost,
+        0,
+    )
 }
