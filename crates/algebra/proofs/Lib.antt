@@ -6,3 +6,8 @@ pub mod Products
 pub mod Messages
 pub mod Encoded
 pub mod Agreement
+pub mod Places
+pub mod Sizes
+pub mod Lines
+pub mod Wholes
+pub mod Combining

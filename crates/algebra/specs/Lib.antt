@@ -2,3 +2,4 @@
 pub mod Grids
 pub mod Weights
 pub mod Agreement
+pub mod Parts

@@ -7,7 +7,7 @@ ghost use Rattle.code.specs.declared.cells.Content.the-variants.{Word};
 ghost use Rattle.algebra.specs.Grids.{row, grids};
 ghost use Rattle.code.specs.Calls.{judges};
 ghost use Rattle.code.specs.Refusals.{clean};
-ghost use Rattle.product.specs.Parts.{Ready, Symbols, Says};
+ghost use Rattle.algebra.specs.Parts.{Ready, Symbols, Says};
 use crate::read::columns_lawful;
 use crate::read::length_of;
 use alphabet::Alphabet;

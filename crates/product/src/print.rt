@@ -10,7 +10,7 @@ ghost use Rattle.code.specs.Codes.{Carries};
 ghost use Rattle.algebra.specs.Grids.{row, column, grids, laid};
 ghost use Rattle.code.specs.Calls.{answered, answered-working, encodes};
 ghost use Rattle.code.specs.Refusals.{encode-sizes, clean};
-ghost use Rattle.product.specs.Parts.{Ready, Symbols};
+ghost use Rattle.algebra.specs.Parts.{Ready, Symbols};
 use crate::pick::message_length_of;
 use crate::pick::place_in;
 use crate::read::length_of;

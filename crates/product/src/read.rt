@@ -11,7 +11,7 @@ ghost use Rattle.algebra.specs.Grids.{row, column, grids};
 ghost use Rattle.code.specs.Calls.{found, reads};
 ghost use Rattle.code.specs.Refusals.{clean};
 ghost use Rattle.algebra.specs.Weights.{cut, heavy, heft, Found};
-ghost use Rattle.product.specs.Parts.{Ready, Taken, Symbols, Weighed, Fresh, Tried, Renewed, Decoded, Rows-decoded, Says, Cut};
+ghost use Rattle.algebra.specs.Parts.{Ready, Taken, Symbols, Weighed, Fresh, Tried, Renewed, Decoded, Rows-decoded, Says, Cut};
 use alphabet::Alphabet;
 use code::BLANK;
 use code::Code;
@@ -85,9 +85,9 @@ fn correct_column<C: Code>(
 {
     take_column(received, n2, j, line);
     match code.read(line, word, rest) {
-        Ok(counts) => {
+        Ok(found) => {
             put_column(word, n2, j, grid);
-            2 * counts.wrong + counts.blank
+            2 * found.wrong + found.blank
         }
         Err(_) => code.distance(),
     }

@@ -17,6 +17,7 @@ use code::check_lawful;
 use code::check_read;
 use code::zero_front;
 
+// Columns are words of the first code and rows words of the second.
 #[derive(Drop)]
 pub struct Product<A, B> {
     columns: A,
@@ -24,6 +25,7 @@ pub struct Product<A, B> {
 }
 
 impl<A: Code, B: Code<Symbols = A::Symbols>> Product<A, B> {
+    // Both codes have one alphabet: a product over two alphabets does not compile.
     pub fn new(columns: A, rows: B) -> Product<A, B>
         ensures columns { λ r. ⌜ r .columns ≡ columns ⌝ }
         ensures rows { λ r. ⌜ r .rows ≡ rows ⌝ }
@@ -81,10 +83,16 @@ pub impl<A: Code, B: Code<Symbols = A::Symbols>> Code for Product<A, B> as Produ
         work: &mut [u16],
     ) -> Result<Counts, Refusal> {
         let n = self.length();
-        let w = self.working_cells();
-        check_read(n, w, received, answer, work)?;
-        let verdict = attempt(&self.columns, &self.rows, received, answer, &mut work[0..w]);
-        zero_front(work, w);
+        let working = self.working_cells();
+        check_read(n, working, received, answer, work)?;
+        let verdict = attempt(
+            &self.columns,
+            &self.rows,
+            received,
+            answer,
+            &mut work[0..working],
+        );
+        zero_front(work, working);
         verdict
     }
 

@@ -3,9 +3,9 @@ use mathlib.Core.List.{List}
 use Prim.Native.Nat.{ℕ, _*_, _≤_, _<_}
 use native.Mathlib.Omega.{arith}
 use Rattle.algebra.specs.Grids.{row, column, Grid}
-use Rattle.product.specs.Parts.{Symbols}
-use Rattle.product.proofs.Places.{side1, side2}
-use Rattle.product.proofs.Wholes.{moved}
+use Rattle.algebra.specs.Parts.{Symbols}
+use Rattle.algebra.proofs.Places.{side1, side2}
+use Rattle.algebra.proofs.Wholes.{moved}
 use Rattle.product.proofs.judge.grid_lawful.Needs as need
 
 pub length-of-n1-requires : need.length-of-n1-requires

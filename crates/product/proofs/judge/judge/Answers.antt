@@ -10,7 +10,7 @@ use Rattle.algebra.specs.Grids.{grids}
 use Rattle.code.specs.Refusals.{clean}
 use Rattle.code.specs.Calls.{judges}
 use Rattle.code.specs.Refusals.{Verdict}
-use Rattle.product.proofs.Lines.{good-symbols}
+use Rattle.algebra.proofs.Lines.{good-symbols}
 use Rattle.product.proofs.judge.judge.Needs as need
 
 pub grid-lawful-requires : need.grid-lawful-requires

@@ -1,6 +1,6 @@
 use mathlib.Core.Path.{_≡_, refl}
 use Rattle.std.specs.declared.result.Result.the-variants.{Ok, Err}
-use Rattle.product.proofs.Lines.{judge-passes}
+use Rattle.algebra.proofs.Lines.{judge-passes}
 use Rattle.product.proofs.judge.line_lawful.Needs as need
 
 pub returns-in-Err : need.returns-in-Err

@@ -6,8 +6,8 @@ use borrow.Author.Count.{below-more}
 use lib.ListN.{length, take, drop, getD}
 use Rattle.algebra.specs.Grids.{row}
 use Rattle.code.proofs.Rows.{length-listed}
-use Rattle.product.proofs.Places.{row-end, row-part}
-use Rattle.product.proofs.Lines.{ready-at, row-symbols}
+use Rattle.algebra.proofs.Places.{row-end, row-part}
+use Rattle.algebra.proofs.Lines.{ready-at, row-symbols}
 use Rattle.product.proofs.judge.rows_lawful.Needs as need
 
 pub offset-grid-from : need.offset-grid-from

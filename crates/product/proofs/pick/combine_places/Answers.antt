@@ -5,8 +5,8 @@ use native.Mathlib.Omega.{arith}
 use Rattle.std.specs.declared.option.Option.{Option}
 use Rattle.std.specs.declared.option.Option.the-variants.{Some, None}
 use Rattle.std.specs.Slices.{found}
-use Rattle.product.proofs.Places.{side1, side2}
-use Rattle.product.proofs.Combining.{absent-up, present-along, present, place-below}
+use Rattle.algebra.proofs.Places.{side1, side2}
+use Rattle.algebra.proofs.Combining.{absent-up, present-along, present, place-below}
 use Rattle.product.proofs.pick.combine_places.Needs as need
 
 pub length-of-n2-requires : need.length-of-n2-requires

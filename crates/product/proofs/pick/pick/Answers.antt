@@ -7,7 +7,7 @@ use Rattle.std.specs.declared.option.Option.the-variants.{Some, None}
 use Rattle.std.proofs.shelf.Tests.{cond-below}
 use Rattle.algebra.specs.Grids.{laid}
 use Rattle.code.proofs.Rows.{is-listed}
-use Rattle.product.proofs.Places.{set-more}
+use Rattle.algebra.proofs.Places.{set-more}
 use Rattle.product.proofs.pick.pick.Needs as need
 use Rattle.product.proofs.pick.pick.Needs.{in-Some, in-rest}
 

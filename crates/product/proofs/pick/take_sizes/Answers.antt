@@ -3,7 +3,7 @@ use Prim.Native.Nat.{ℕ, _*_, _≤_}
 use lib.ListN.{length}
 use native.Mathlib.Nat.{mul-le-mul}
 use Rattle.algebra.specs.Grids.{grids}
-use Rattle.product.proofs.Sizes.{gate-take, sized-tells, limits-told, both-made}
+use Rattle.algebra.proofs.Sizes.{gate-take, sized-tells, limits-told, both-made}
 use Rattle.product.proofs.pick.take_sizes.Needs as need
 
 pub returns : need.returns

@@ -6,7 +6,7 @@ use lib.ListN.{length, getD}
 use Rattle.code.specs.Cells.{listed}
 use Rattle.code.specs.Codes.{Carries}
 use Rattle.algebra.specs.Grids.{column}
-use Rattle.product.proofs.Lines.{listed-symbols}
+use Rattle.algebra.proofs.Lines.{listed-symbols}
 use Rattle.product.proofs.print.encode_column.Needs as need
 
 pub encode-line-requires : need.encode-line-requires

@@ -10,7 +10,7 @@ use Rattle.code.specs.Codes.{Carries}
 use Rattle.algebra.specs.Grids.{column}
 use Rattle.code.proofs.Rows.{listed-same}
 use Rattle.algebra.proofs.Grids.{column-at}
-use Rattle.product.proofs.Lines.{ready-at}
+use Rattle.algebra.proofs.Lines.{ready-at}
 use Rattle.product.proofs.print.encode_columns.Needs as need
 
 pub encode-column-requires : need.encode-column-requires

@@ -9,9 +9,9 @@ use Rattle.code.specs.Codes.{Carries}
 use Rattle.algebra.specs.Grids.{row, column}
 use Rattle.algebra.proofs.Grids.{row-at}
 use Rattle.algebra.proofs.Encoded.{encoded-grid}
-use Rattle.product.specs.Parts.{Symbols}
-use Rattle.product.proofs.Places.{side1, side2}
-use Rattle.product.proofs.Wholes.{moved}
+use Rattle.algebra.specs.Parts.{Symbols}
+use Rattle.algebra.proofs.Places.{side1, side2}
+use Rattle.algebra.proofs.Wholes.{moved}
 use Rattle.product.proofs.print.encode_grid.Needs as need
 
 pub length-of-n1-requires : need.length-of-n1-requires

@@ -1,4 +1,4 @@
-use Rattle.product.proofs.Lines.{encode-passes}
+use Rattle.algebra.proofs.Lines.{encode-passes}
 use Rattle.product.proofs.print.encode_line.Needs as need
 
 pub returns : need.returns

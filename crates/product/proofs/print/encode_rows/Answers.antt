@@ -9,8 +9,8 @@ use lib.ListN.{length, take, drop, getD}
 use Rattle.code.specs.Codes.{Carries}
 use Rattle.algebra.specs.Grids.{row}
 use Rattle.code.proofs.Rows.{length-listed}
-use Rattle.product.proofs.Places.{row-end, row-part, row-other, row-same}
-use Rattle.product.proofs.Lines.{ready-at, row-symbols}
+use Rattle.algebra.proofs.Places.{row-end, row-part, row-other, row-same}
+use Rattle.algebra.proofs.Lines.{ready-at, row-symbols}
 use Rattle.product.proofs.print.encode_rows.Needs as need
 
 pub part-encode-line-end : need.part-encode-line-end

@@ -4,7 +4,7 @@ use native.Mathlib.Nat.{mul-le-mul}
 use native.Mathlib.Omega.{arith}
 use lib.ListN.{length}
 use Rattle.algebra.specs.Grids.{grids}
-use Rattle.product.proofs.Sizes.{gate-encode, answered-wide, sized-tells, limits-told, both-made}
+use Rattle.algebra.proofs.Sizes.{gate-encode, answered-wide, sized-tells, limits-told, both-made}
 use Rattle.product.proofs.print.encode_sizes.Needs as need
 
 pub returns : need.returns

@@ -9,7 +9,7 @@ use Rattle.algebra.specs.Grids.{grids, laid}
 use Rattle.code.specs.Refusals.{clean}
 use Rattle.code.specs.Calls.{encodes}
 use Rattle.code.specs.Refusals.{Verdict}
-use Rattle.product.proofs.Lines.{good-symbols}
+use Rattle.algebra.proofs.Lines.{good-symbols}
 use Rattle.product.proofs.print.print.Needs as need
 
 pub encode-grid-requires : need.encode-grid-requires

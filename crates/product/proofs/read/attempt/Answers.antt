@@ -10,7 +10,7 @@ use Rattle.algebra.specs.Grids.{grids}
 use Rattle.code.specs.Refusals.{clean}
 use Rattle.code.specs.Calls.{reads}
 use Rattle.code.specs.Refusals.{Verdict}
-use Rattle.product.specs.Parts.{Taken}
+use Rattle.algebra.specs.Parts.{Taken}
 use Rattle.product.proofs.read.attempt.Needs as need
 
 pub solve-requires : need.solve-requires

@@ -4,8 +4,8 @@ use Prim.Native.Nat.{ℕ}
 use native.Mathlib.Omega.{arith}
 use lib.ListN.{length}
 use Rattle.std.specs.declared.result.Result.the-variants.{Ok, Err}
-use Rattle.product.specs.Parts.{Says}
-use Rattle.product.proofs.Lines.{judge-passes, ready-at, column-symbols}
+use Rattle.algebra.specs.Parts.{Says}
+use Rattle.algebra.proofs.Lines.{judge-passes, ready-at, column-symbols}
 use Rattle.product.proofs.read.column_lawful.Needs as need
 
 pub returns-in-Err : need.returns-in-Err

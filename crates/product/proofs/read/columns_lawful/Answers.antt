@@ -4,7 +4,7 @@ use Prim.Native.Nat.{ℕ, _-_}
 use native.Mathlib.Omega.{arith}
 use lib.ListN.{length, take}
 use Rattle.algebra.specs.Grids.{column}
-use Rattle.product.proofs.Places.{part-long}
+use Rattle.algebra.proofs.Places.{part-long}
 use Rattle.product.proofs.read.columns_lawful.Needs as need
 
 pub returns-then-not-column-lawful : need.returns-then-not-column-lawful

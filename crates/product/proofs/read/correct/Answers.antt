@@ -7,8 +7,8 @@ use lib.ListN.{length}
 use Rattle.code.specs.Cells.{cost}
 use Rattle.algebra.specs.Grids.{row, column, grids}
 use Rattle.code.specs.Calls.{Within}
-use Rattle.product.specs.Parts.{Weighed, Rows-decoded}
-use Rattle.product.proofs.Wholes.{moved, Columns-found, rows-weighed, rows-symbols, beyond-row, beyond-column, beyond-cost, whole}
+use Rattle.algebra.specs.Parts.{Weighed, Rows-decoded}
+use Rattle.algebra.proofs.Wholes.{moved, Columns-found, rows-weighed, rows-symbols, beyond-row, beyond-column, beyond-cost, whole}
 use Rattle.product.proofs.read.correct.Needs as need
 
 pub decode-rows-requires : need.decode-rows-requires

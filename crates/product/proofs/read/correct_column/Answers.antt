@@ -5,7 +5,7 @@ use native.Mathlib.Omega.{arith}
 use lib.ListN.{length}
 use Rattle.std.specs.declared.result.Result.the-variants.{Ok, Err}
 use Rattle.algebra.specs.Grids.{column}
-use Rattle.product.proofs.Lines.{read-passes, ready-at, column-taken, column-found, found-word, found-none}
+use Rattle.algebra.proofs.Lines.{read-passes, ready-at, column-taken, column-found, found-word, found-none}
 use Rattle.product.proofs.read.correct_column.Needs as need
 
 pub returns-in-Err : need.returns-in-Err
@@ -34,7 +34,7 @@ returns-in-Ok g c =
     let p = g .C·Code·met .apart (c .args .code .now) in
     let line : List ℕ = c .take-column .last .line in
     let n : ℕ = length (c .args .line .now) in
-    let told = read-passes s line (c .args .word .now) (c .read .last .answer) (c .args .rest .now) (c .read .last .work) (Ok (c .in-Ok .counts))
+    let told = read-passes s line (c .args .word .now) (c .read .last .answer) (c .args .rest .now) (c .read .last .work) (Ok (c .in-Ok .found))
     (ready-at s n (length line) (length (c .args .rest .now)) _ (c .take-column .kept .line) refl (c .pre .ready))
     (c .pre .lines ∙ sym (c .take-column .kept .line))
     (column-taken (s .q) n (c .args .n2) (c .args .received .now) line (c .args .j) (c .pre .within) (c .pre .fits .0) (c .take-column .ensures) (c .pre .taken))
@@ -43,7 +43,7 @@ returns-in-Ok g c =
     let m : length (c .read .last .answer) ≡ n = c .read .kept .answer ∙ c .pre .lines in
     record {
       found = column-found s n (length (c .read .last .answer)) (c .args .n2) (c .args .j) _ (c .args .received .now) (c .put-column .last .grid) line (c .read .last .answer)
-          (c .take-column .ensures) (c .put-column .ensures .here) m (found-word s line (c .read .last .answer) (c .in-Ok .counts) told);
+          (c .take-column .ensures) (c .put-column .ensures .here) m (found-word s line (c .read .last .answer) (c .in-Ok .found) told);
       low = omega (arith, told .reach, told .wrong, told .blank, low);
       others = λ k l ne. rw (sym m) (c .put-column .ensures .others k l ne);
     }

@@ -5,8 +5,8 @@ use Prim.Native.Nat.{ℕ, _+_}
 use native.Mathlib.Omega.{arith}
 use borrow.Author.Count.{below-more}
 use lib.ListN.{length}
-use Rattle.product.specs.Parts.{Heavy-at, Renewed}
-use Rattle.product.proofs.Lines.{decoded-none}
+use Rattle.algebra.specs.Parts.{Heavy-at, Renewed}
+use Rattle.algebra.proofs.Lines.{decoded-none}
 use Rattle.product.proofs.read.decode_row.Needs as need
 
 pub returns : need.returns

@@ -1,6 +1,6 @@
 use Prim.Native.Nat.{ℕ, _+_, _<_}
 use mathlib.Core.Path.{_≡_}
-use Rattle.product.specs.Parts.{Heavy-at}
+use Rattle.algebra.specs.Parts.{Heavy-at}
 use Rattle.product.proofs.read.decode_row.Given as given
 
 abbrev pub Inv-loop-t : given.InvT-loop-t

@@ -7,9 +7,9 @@ use borrow.Rule.Slice.PartMut.{putMid}
 use lib.ListN.{length, take, drop, getD}
 use Rattle.algebra.specs.Grids.{row}
 use Rattle.code.proofs.Rows.{length-listed}
-use Rattle.product.specs.Parts.{Weighed, Light, Heavy}
-use Rattle.product.proofs.Places.{row-end, row-part, row-before, row-after, row-same, part-long}
-use Rattle.product.proofs.Lines.{ready-at}
+use Rattle.algebra.specs.Parts.{Weighed, Light, Heavy}
+use Rattle.algebra.proofs.Places.{row-end, row-part, row-before, row-after, row-same, part-long}
+use Rattle.algebra.proofs.Lines.{ready-at}
 use Rattle.product.proofs.read.decode_rows.Needs as need
 
 pub offset-grid-from : need.offset-grid-from

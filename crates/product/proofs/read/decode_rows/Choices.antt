@@ -1,7 +1,7 @@
 use Prim.Native.Nat.{ℕ, _<_, _≤_}
 use mathlib.Core.Path.{_≡_}
 use Rattle.algebra.specs.Grids.{row}
-use Rattle.product.specs.Parts.{Light}
+use Rattle.algebra.specs.Parts.{Light}
 use Rattle.product.proofs.read.decode_rows.Given as given
 
 abbrev pub Inv-loop-i : given.InvT-loop-i

@@ -1,6 +1,6 @@
 use native.Mathlib.Omega.{arith}
 use Prim.Native.Nat.{ℕ, _*_, _≤_}
-use Rattle.product.proofs.Places.{side1, side2}
+use Rattle.algebra.proofs.Places.{side1, side2}
 use Rattle.product.proofs.read.solve.Needs as need
 
 pub length-of-n2-requires : need.length-of-n2-requires

@@ -1,4 +1,4 @@
-use Rattle.product.proofs.Lines.{stale, renewed}
+use Rattle.algebra.proofs.Lines.{stale, renewed}
 use native.Mathlib.Omega.{arith}
 use lib.ListN.{length}
 use Rattle.product.proofs.read.try_fresh.Needs as need

@@ -5,7 +5,7 @@ use native.Mathlib.Omega.{arith}
 use lib.ListN.{length, getD}
 use Rattle.std.specs.declared.result.Result.the-variants.{Ok, Err}
 use Rattle.algebra.specs.Weights.{cut}
-use Rattle.product.proofs.Lines.{read-passes, ready-at, cut-taken, tried, tried-none}
+use Rattle.algebra.proofs.Lines.{read-passes, ready-at, cut-taken, tried, tried-none}
 use Rattle.product.proofs.read.try_row.Needs as need
 
 pub returns-in-Err : need.returns-in-Err

@@ -3,7 +3,7 @@ use mathlib.Core.List.{List}
 use Prim.Native.Nat.{ℕ}
 use Rattle.algebra.specs.Grids.{grids, laid}
 use Rattle.code.proofs.Checks.{encodes-sized}
-use Rattle.product.proofs.Places.{wiped-part, part-long}
+use Rattle.algebra.proofs.Places.{wiped-part, part-long}
 use Rattle.product.proofs.whole.ProductCode.encode.Needs as need
 
 pub returns : need.returns

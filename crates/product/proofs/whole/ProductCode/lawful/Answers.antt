@@ -5,8 +5,8 @@ use native.Mathlib.Omega.{arith}
 use lib.ListN.{length}
 use Rattle.algebra.specs.Grids.{grids}
 use Rattle.code.proofs.Checks.{judges-sized}
-use Rattle.product.proofs.Places.{wiped-part, part-long}
-use Rattle.product.proofs.Sizes.{within-limits, gate-judge, room-of}
+use Rattle.algebra.proofs.Places.{wiped-part, part-long}
+use Rattle.algebra.proofs.Sizes.{within-limits, gate-judge, room-of}
 use Rattle.product.proofs.whole.ProductCode.lawful.Needs as need
 
 pub returns : need.returns

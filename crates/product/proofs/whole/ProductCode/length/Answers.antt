@@ -1,7 +1,7 @@
 use native.Mathlib.Omega.{arith}
 use mathlib.Core.Path.{_≡_, ap, _∙_}
 use Prim.Native.Nat.{ℕ, _*_, min}
-use Rattle.product.proofs.Places.{cap-mul-any}
+use Rattle.algebra.proofs.Places.{cap-mul-any}
 use Rattle.product.proofs.whole.ProductCode.length.Needs as need
 
 pub returns : need.returns

@@ -3,8 +3,8 @@ use Prim.Native.Nat.{ℕ, _+_, _*_, _≤_, min, max}
 use native.Mathlib.Omega.{arith}
 use Rattle.std.proofs.shelf.Tests.{cond-above}
 use Rattle.algebra.specs.Grids.{grids}
-use Rattle.product.proofs.Places.{side1, side2}
-use Rattle.product.proofs.Sizes.{room-of, room-capped}
+use Rattle.algebra.proofs.Places.{side1, side2}
+use Rattle.algebra.proofs.Sizes.{room-of, room-capped}
 use Rattle.product.proofs.whole.ProductCode.working_cells.Needs as need
 
 pub returns : need.returns

@@ -10,17 +10,17 @@ use Rattle.std.proofs.shelf.Tests.{cases-lt}
 use Rattle.code.specs.declared.cells.Counts.{Counts}
 use Rattle.code.specs.Cells.{blank, cost, wrongs, blanks}
 use Rattle.code.specs.Codes.{Codebook, Apart}
 use Rattle.algebra.specs.Grids.{row, column, Grid, grids}
 use Rattle.code.specs.Calls.{Within, Beyond}
 use Rattle.code.proofs.Costs.{within}
 use Rattle.code.proofs.Rows.{equal-or-not}
 use Rattle.algebra.specs.Weights.{heft, Found}
 use Rattle.algebra.proofs.Averages.{one-passes}
 use Rattle.algebra.proofs.Grids.{place, row-at, column-at}
 use Rattle.algebra.proofs.Products.{product-apart}
 use Rattle.algebra.proofs.Reach.{row-weighs}
-use Rattle.product.specs.Parts.{Symbols, Weighed, Light, Rows-decoded}
-use Rattle.product.proofs.Places.{same-rows}
+use Rattle.algebra.specs.Parts.{Symbols, Weighed, Light, Rows-decoded}
+use Rattle.algebra.proofs.Places.{same-rows}
 
 -- numbers as the code has them
 pub moved : (P : ℕ → ℕ → ℕ → Type 0) {x y z u v w : ℕ} → x ≡ u → y ≡ v → z ≡ w → P x y z → P u v w

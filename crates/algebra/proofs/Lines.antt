@@ -18,18 +18,18 @@ use Rattle.code.specs.declared.cells.Counts.{Counts}
 use Rattle.code.specs.declared.refusals.Refusal.{Refusal}
 use Rattle.code.specs.Cells.{good, blank, cost, listed}
 use Rattle.code.specs.Codes.{Codebook, Layout, Apart, Carries}
 use Rattle.algebra.specs.Grids.{row, column}
 use Rattle.code.specs.Refusals.{clean, then}
 use Rattle.code.specs.Calls.{reads, found, Reads, judges, judged, Judges, encodes, Encodes, Within, Beyond}
 use Rattle.code.proofs.Rows.{length-listed, getD-listed, listed-same}
 use Rattle.code.specs.Refusals.{Verdict}
 use Rattle.code.proofs.Rows.{equal-or-not}
 use Rattle.algebra.specs.Weights.{cut, heft, Found}
 use Rattle.algebra.proofs.Averages.{some-cut}
 use Rattle.algebra.proofs.Grids.{column-at, row-at}
-use Rattle.product.specs.Parts.{Ready, Taken, Symbols, Weighed, Light, Heavy, Heavy-at, Tried, Renewed}
-use Rattle.product.proofs.Places.{at}
-use Rattle.product.proofs.Sizes.{gauge}
+use Rattle.algebra.specs.Parts.{Ready, Taken, Symbols, Weighed, Light, Heavy, Heavy-at, Tried, Renewed}
+use Rattle.algebra.proofs.Places.{at}
+use Rattle.algebra.proofs.Sizes.{gauge}
 
 -- ---- gates that are open
 one-more : (b : Bool) (n m : ℕ) → b ≡ true → n ≤ m → suc n ≤ cond b (1 + m) 0
