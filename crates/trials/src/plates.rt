@@ -25,6 +25,8 @@ use repetition::RepetitionCode;
 use std::test::*;
 use sum::Sum;
 use sum::SumCode;
+use table::Table;
+use table::TableCode;
 
 fn fare_code() -> Result<Product<Repetition<Digits>, Sum<Digits>>, Refusal> {
     Ok(Product::new(Repetition::new(3)?, Sum::new(4)?))
@@ -80,6 +82,31 @@ fn plate_sizes_and_cells(rt: LibcRuntime) -> Result<(), Fail> {
     encode_fails(heap, &code, &[1, 2, 10], (12, 25), Reason::Smudge, 2)?;
     take_out_fails(heap, &code, &FARE, 4, Reason::WrongTray, 0)?;
     take_out_fails(heap, &code, &smudged, 3, Reason::Smudge, 6)
+}
+
+fn seven_four() -> Result<Table<Bits>, Refusal> {
+    let mut table = Table::EMPTY;
+    table.fill(4, 3, &[1, 0, 1, 1, 1, 1, 1, 1, 0, 0, 1, 1])?;
+    Ok(table)
+}
+
+// Two wrong cells in each of two columns: the columns are read wrongly, and correcting columns and then rows would leave nine wrong cells.
+#[test]
+fn four_errors_in_a_square(rt: LibcRuntime) -> Result<(), Fail> {
+    let heap = rt.alloc();
+    let (Ok(tall), Ok(wide)) = (seven_four(), seven_four()) else {
+        return Err(Fail::new("a table was refused"));
+    };
+    let code = Product::new(tall, wide);
+    has_numbers(&code, 49, 16, 9, 77)?;
+    let mut spoiled = [0; 49];
+    spoiled[8] = 1;
+    spoiled[9] = 1;
+    spoiled[15] = 1;
+    spoiled[16] = 1;
+    reads_as(heap, &code, &spoiled, &[0; 49], 4, 0)?;
+    spoiled[48] = BLANK;
+    read_fails(heap, &code, &spoiled, (49, 77), Reason::Lost, 0)
 }
 
 fn square(n: usize) -> Result<Product<Repetition<Bits>, Repetition<Bits>>, Refusal> {
