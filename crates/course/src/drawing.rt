@@ -31,7 +31,12 @@ fn show_cell(rt: &LibcRuntime, cell: u16, wrong: bool) -> io::Result<()> {
 }
 
 // Cells in lines of the given width.
-pub fn show_cells(rt: &LibcRuntime, label: &str, cells: &[u16], width: usize) -> io::Result<()> {
+pub(crate) fn show_cells(
+    rt: &LibcRuntime,
+    label: &str,
+    cells: &[u16],
+    width: usize,
+) -> io::Result<()> {
     for (at, cell) in cells.iter().enumerate() {
         show_margin(rt, label, at, width)?;
         show_cell(rt, *cell, false)?;
@@ -40,7 +45,7 @@ pub fn show_cells(rt: &LibcRuntime, label: &str, cells: &[u16], width: usize) ->
 }
 
 // The same, with a mark at each cell that differs from what was printed.
-pub fn show_spoiled(
+pub(crate) fn show_spoiled(
     rt: &LibcRuntime,
     label: &str,
     printed: &[u16],
@@ -55,7 +60,7 @@ pub fn show_spoiled(
     println!(rt, "")
 }
 
-pub fn show_forecast(
+pub(crate) fn show_forecast(
     rt: &LibcRuntime,
     counts: Counts,
     d: usize,
@@ -74,7 +79,7 @@ pub fn show_forecast(
     }
 }
 
-pub fn show_counts(rt: &LibcRuntime, counts: Counts) -> io::Result<()> {
+pub(crate) fn show_counts(rt: &LibcRuntime, counts: Counts) -> io::Result<()> {
     println!(
         rt,
         "  with {} wrong and {} blank",
@@ -82,7 +87,7 @@ pub fn show_counts(rt: &LibcRuntime, counts: Counts) -> io::Result<()> {
     )
 }
 
-pub fn show_refusal(rt: &LibcRuntime, refusal: Refusal) -> io::Result<()> {
+pub(crate) fn show_refusal(rt: &LibcRuntime, refusal: Refusal) -> io::Result<()> {
     println!(
         rt,
         "  refused: {} {}",

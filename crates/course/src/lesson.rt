@@ -27,11 +27,11 @@ pub struct Spoil {
     cell: u16,
 }
 
-pub fn wrong(place: usize, cell: u16) -> Spoil {
+pub(crate) fn wrong(place: usize, cell: u16) -> Spoil {
     Spoil { place, cell }
 }
 
-pub fn blank(place: usize) -> Spoil {
+pub(crate) fn blank(place: usize) -> Spoil {
     Spoil { place, cell: BLANK }
 }
 
@@ -99,7 +99,7 @@ fn show_verdict<C: Code>(
 }
 
 // An exercise with plates of the given width; a row is a plate of one line.
-pub fn exercise<C: Code>(
+pub(crate) fn exercise<C: Code>(
     rt: &LibcRuntime,
     title: &str,
     code: &C,
@@ -122,7 +122,11 @@ pub fn exercise<C: Code>(
 }
 
 // An exercise with plates of three codes, read in both bracketings.
-pub fn exercise_both_ways<A: Code, B: Code<Symbols = A::Symbols>, C: Code<Symbols = A::Symbols>>(
+pub(crate) fn exercise_both_ways<
+    A: Code,
+    B: Code<Symbols = A::Symbols>,
+    C: Code<Symbols = A::Symbols>,
+>(
     rt: &LibcRuntime,
     title: &str,
     left: &Product<Product<A, B>, C>,

@@ -20,7 +20,7 @@ fn is_all(cells: &[u16], value: u16) -> bool {
     true
 }
 
-pub fn same_cells(a: &[u16], b: &[u16]) -> Result<(), Fail> {
+pub(crate) fn same_cells(a: &[u16], b: &[u16]) -> Result<(), Fail> {
     check_eq(a.len(), b.len())?;
     for (x, y) in a.iter().zip(b) {
         check_eq(*x, *y)?;
@@ -28,7 +28,7 @@ pub fn same_cells(a: &[u16], b: &[u16]) -> Result<(), Fail> {
     Ok(())
 }
 
-pub fn same_refusal(refusal: Refusal, reason: Reason, place: usize) -> Result<(), Fail> {
+pub(crate) fn same_refusal(refusal: Refusal, reason: Reason, place: usize) -> Result<(), Fail> {
     check_eq(refusal.reason.number(), reason.number())?;
     check_eq(refusal.place, place)
 }
@@ -44,7 +44,7 @@ fn is_size(reason: Reason) -> bool {
     reason.number() <= 4
 }
 
-pub fn reads_as<C: Code>(
+pub(crate) fn reads_as<C: Code>(
     heap: Global,
     code: &C,
     received: &[u16],
@@ -65,7 +65,7 @@ pub fn reads_as<C: Code>(
 }
 
 // A read with so many answer and working cells is refused.
-pub fn read_fails<C: Code>(
+pub(crate) fn read_fails<C: Code>(
     heap: Global,
     code: &C,
     received: &[u16],
@@ -84,7 +84,12 @@ pub fn read_fails<C: Code>(
     check_work(&work, code.working_cells(), !is_size(reason))
 }
 
-pub fn is_lawful<C: Code>(heap: Global, code: &C, cells: &[u16], lawful: bool) -> Result<(), Fail> {
+pub(crate) fn is_lawful<C: Code>(
+    heap: Global,
+    code: &C,
+    cells: &[u16],
+    lawful: bool,
+) -> Result<(), Fail> {
     let asked = code.working_cells();
     let mut work = vec![in heap; OLD; asked.saturating_add(SPARE)]?;
     let Ok(answer) = code.lawful(cells, &mut work) else {
@@ -94,7 +99,7 @@ pub fn is_lawful<C: Code>(heap: Global, code: &C, cells: &[u16], lawful: bool) -
     check_work(&work, asked, true)
 }
 
-pub fn lawful_fails<C: Code>(
+pub(crate) fn lawful_fails<C: Code>(
     heap: Global,
     code: &C,
     cells: &[u16],
@@ -111,7 +116,7 @@ pub fn lawful_fails<C: Code>(
 }
 
 // A message is encoded as a word, which is lawful and gives the message back.
-pub fn encodes_as<C: Code>(
+pub(crate) fn encodes_as<C: Code>(
     heap: Global,
     code: &C,
     message: &[u16],
@@ -129,7 +134,7 @@ pub fn encodes_as<C: Code>(
     is_lawful(heap, code, word, true)
 }
 
-pub fn encode_fails<C: Code>(
+pub(crate) fn encode_fails<C: Code>(
     heap: Global,
     code: &C,
     message: &[u16],
@@ -148,7 +153,7 @@ pub fn encode_fails<C: Code>(
     check_work(&work, code.working_cells(), !is_size(reason))
 }
 
-pub fn takes_out<C: Code>(
+pub(crate) fn takes_out<C: Code>(
     heap: Global,
     code: &C,
     word: &[u16],
@@ -161,7 +166,7 @@ pub fn takes_out<C: Code>(
     same_cells(&answer, message)
 }
 
-pub fn take_out_fails<C: Code>(
+pub(crate) fn take_out_fails<C: Code>(
     heap: Global,
     code: &C,
     word: &[u16],
@@ -178,7 +183,7 @@ pub fn take_out_fails<C: Code>(
 }
 
 // n, k, d and the number of working cells
-pub fn has_numbers<C: Code>(
+pub(crate) fn has_numbers<C: Code>(
     code: &C,
     n: usize,
     k: usize,
