@@ -1,13 +1,12 @@
--- The ring of sixteen: one test over all its symbols, and the lemma that turns it into the laws. Assumes nothing.
-use mathlib.Core.Path.{_≡_, ap, ap₂, sym, _∙_}
-use mathlib.Core.Bool.{Bool, _&&_}
+-- The field of sixteen: shifts give its product, its product is the remainder, and it obeys the ring laws. Assumes nothing.
+use mathlib.Core.Path.{_≡_}
 use Prim.Native.Nat.{ℕ, _+_, _*_, _<_}
-use lib.Dec.{T, eqb, ltb, eqb→eq, ltb→lt, lit≤}
-use lib.Bits.{bitXor, xor-assoc, xor-comm, xor-self, xor-zero-r, xor-lt}
+use lib.Dec.{eqb, ltb, eqb→eq, ltb→lt, lit≤}
+use lib.Bits.{bitXor}
 use Rattle.alphabet.specs.Rings.{Ring}
 use Rattle.alphabet.specs.Polynomials.{coefficient, product-coefficient, product, taken-off, reduced, Remainder, field-product}
 use Rattle.alphabet.specs.Shifts.{raised, shifted-product}
-use Rattle.alphabet.proofs.Tested.{all, at, at-two, at-three}
+use Rattle.alphabet.proofs.Tested.{at, at-two, tested}
 
 pub raised-below : (a : ℕ) → a < 16 → raised a < 16
 raised-below a h = ltb→lt (raised a) 16 (at 16 (λ x. ltb (raised x) 16) tt a h)
@@ -37,18 +36,4 @@ remains a b ha hb = record {
 
 pub sixteen : Ring 16 bitXor (λ a. a) field-product
 unfolding product-coefficient product reduced field-product
-sixteen = record {
-  low = lit≤ tt;
-  high = lit≤ tt;
-  add-closed = λ a b ha hb. xor-lt 4 a b ha hb;
-  neg-closed = λ a ha. ha;
-  mul-closed = field-below;
-  add-assoc = λ a b c ha hb hc. xor-assoc a b c;
-  add-comm = λ a b ha hb. xor-comm a b;
-  add-zero = λ a ha. xor-zero-r a;
-  add-neg = λ a ha. xor-self a;
-  mul-assoc = λ a b c ha hb hc. eqb→eq _ _ (at-three 16 (λ x y z. eqb (field-product (field-product x y) z) (field-product x (field-product y z))) tt a b c ha hb hc);
-  mul-comm = λ a b ha hb. eqb→eq _ _ (at-two 16 (λ x y. eqb (field-product x y) (field-product y x)) tt a b ha hb);
-  mul-one = λ a ha. eqb→eq (field-product a 1) a (at 16 (λ x. eqb (field-product x 1) x) tt a ha);
-  mul-add = λ a b c ha hb hc. eqb→eq _ _ (at-three 16 (λ x y z. eqb (field-product x (bitXor y z)) (bitXor (field-product x y) (field-product x z))) tt a b c ha hb hc);
-}
+sixteen = tested 16 bitXor (λ a. a) field-product tt (lit≤ tt) (lit≤ tt)
