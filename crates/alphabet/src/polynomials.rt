@@ -45,7 +45,10 @@ pub impl Alphabet for Sixteen as SixteenAlphabet {
 
     ghost times = { field-product };
 
-    fn size() -> u16 {
+    fn size() -> u16
+        ensures is { λ r. ⌜ r ≡ 16 ⌝ }
+        ensures constant { λ r. do ⌜ (← ⟦SixteenAlphabet::Q⟧ .exit) ≡ r ⌝ }
+    {
         Self::Q
     }
 

@@ -45,7 +45,10 @@ pub impl Alphabet for Bits as BitsAlphabet {
 
     ghost times = { times-mod 2 };
 
-    fn size() -> u16 {
+    fn size() -> u16
+        ensures is { λ r. ⌜ r ≡ 2 ⌝ }
+        ensures constant { λ r. do ⌜ (← ⟦BitsAlphabet::Q⟧ .exit) ≡ r ⌝ }
+    {
         Self::Q
     }
 
@@ -73,7 +76,10 @@ pub impl Alphabet for Digits as DigitsAlphabet {
 
     ghost times = { times-mod 10 };
 
-    fn size() -> u16 {
+    fn size() -> u16
+        ensures is { λ r. ⌜ r ≡ 10 ⌝ }
+        ensures constant { λ r. do ⌜ (← ⟦DigitsAlphabet::Q⟧ .exit) ≡ r ⌝ }
+    {
         Self::Q
     }
 
