@@ -1,9 +1,9 @@
 -- A row whose cells carry weights, and the row cut at each weight: some cut costs no more than the average. Assumes nothing.
-use Rattle.std.proofs.Common.{◌≡◌, ℕ, zero, suc, ◌+◌, ◌-◌, ◌*◌, ◌<◌, ◌≤◌, cond, eqb, leb, ◌≢◌, List, length, get_or, ap, ◌∙◌, inl, inr, mul-le-mul_left, arith}
+use Rattle.std.proofs.Common.{◌≡◌, ℕ, zero, suc, ◌+◌, ◌-◌, ◌*◌, ◌<◌, ◌≤◌, cond, leb, ◌≢◌, List, length, get_or, ap, ◌∙◌, inl, inr, mul-le-mul_left, arith}
 use Rattle.std.proofs.lemmas.Bool.{cases_lt, le-leb, lt-leb, cond-true, cond-false}
 use Rattle.std.proofs.lemmas.Bool.Decides.{nat_tests}
 use Rattle.alphabet.specs.Sums.{sum}
-use Rattle.code.specs.Cells.{listed, blank, cost, differing}
+use Rattle.code.specs.Cells.{blank, cost, differing}
 use Rattle.code.specs.Codes.{Codebook, Apart}
 use Rattle.algebra.specs.Weights.{cut, heavy, heft}
 use Rattle.alphabet.proofs.Sums.{sum_same, sum-le, sum-add, sum_times, sum_constant, sum_swap, sum_parts}

@@ -1,14 +1,14 @@
 -- What reading or judging one line tells, where the code is ready for it. Assumes nothing.
-use Rattle.std.proofs.Common.{◌≡◌, ℕ, zero, suc, ◌+◌, ◌-◌, ◌*◌, ◌<◌, ◌≤◌, Bool, true, false, cond, ◌&&◌, ◌||◌, T, eqb, ltb, leb, ◌≢◌, List, [], ◌∷◌, length, get_or, Ok, Err, Result, sym, refl, ap, ◌∙◌, subst, inl, inr, arith}
+use Rattle.std.proofs.Common.{◌≡◌, ℕ, suc, ◌+◌, ◌-◌, ◌*◌, ◌<◌, ◌≤◌, Bool, true, false, cond, eqb, ltb, leb, ◌≢◌, List, [], ◌∷◌, length, get_or, Ok, Result, sym, refl, ap, ◌∙◌, subst, inl, inr, arith}
 use Rattle.std.specs.List.{prefix_len}
-use Rattle.std.proofs.lemmas.Bool.{cases_lt, cond_above, cond_both, le-ltb, lt-ltb, eq-eqb, leb-false, ltb-true, ltb-false, or_left, or_right, or_cases, false≢true}
+use Rattle.std.proofs.lemmas.Bool.{cases_lt, cond_above, cond_both, le-ltb, lt-ltb, eq-eqb, leb-false, ltb-true, ltb-false, or_left, or_right, false≢true}
 use Rattle.std.proofs.lemmas.Bool.Decides.{nat_tests}
 use Rattle.code.specs.declared.cells.Content.{Content}
 use Rattle.code.specs.declared.cells.Content.TheVariants.{Word, Received}
 use Rattle.code.specs.declared.cells.Counts.{Counts}
 use Rattle.code.specs.declared.refusals.Refusal.{Refusal}
 use Rattle.code.specs.Cells.{good, blank, cost, listed}
-use Rattle.code.specs.Codes.{Codebook, Layout, Apart, Carries}
+use Rattle.code.specs.Codes.{Codebook, Layout, Carries}
 use Rattle.algebra.specs.Grids.{row, column}
 use Rattle.code.specs.Refusals.{clean, then}
 use Rattle.code.specs.Calls.{reads, found, Reads, judges, judged, Judges, encodes, Encodes, Within, Beyond}

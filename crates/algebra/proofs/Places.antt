@@ -1,14 +1,14 @@
 -- Places of a grid, and what one write more leaves of its rows and columns. Assumes nothing.
-use Rattle.std.proofs.Common.{◌≡◌, ℕ, suc, ◌+◌, ◌-◌, ◌*◌, ◌<◌, ◌≤◌, min, max, ◌≢◌, ◌⊎◌, List, ◌++◌, length, get_or, take, drop, set, replicate, sym, refl, ap, ◌∙◌, subst, inl, inr, mul-le-mul_right, suc-mul, mul-le-mul, mul-le-mul_left, zero-mul, arith, length-drop, length-take, get_or-set_other, get_or-set_same, ext_get_or, below_more}
+use Rattle.std.proofs.Common.{◌≡◌, ℕ, suc, ◌+◌, ◌-◌, ◌*◌, ◌<◌, ◌≤◌, min, ◌≢◌, List, ◌++◌, length, get_or, take, drop, set, sym, ap, ◌∙◌, inl, inr, mul-le-mul_right, suc-mul, mul-le-mul_left, zero-mul, arith, length-drop, length-take, get_or-set_other, get_or-set_same, ext_get_or, below_more}
 use lib.Arith.{digits_lt}
 use borrow.Rule.Slice.PartMut.{put_mid}
-use Rattle.std.proofs.lemmas.Bool.{cases_lt, cases_eq, cases_order}
-use Rattle.std.proofs.lemmas.Slice.{take-put_mid_below, between-put_mid, drop-put_mid, drop-append-drop}
+use Rattle.std.proofs.lemmas.Bool.{cases_lt, cases_order}
+use Rattle.std.proofs.lemmas.Slice.{take-put_mid_below, between-put_mid, drop-put_mid}
 use Rattle.std.proofs.lemmas.List.{drop-take, length-append}
-use Rattle.code.specs.Cells.{listed, zeroed}
-use Rattle.algebra.specs.Grids.{row, column}
-use Rattle.code.proofs.Rows.{zeroed-over, length-listed, get_or-listed, is_listed, listed_same, listed-get_or}
-use Rattle.algebra.proofs.Grids.{Place, place, row_at, column_at, row_is_slice}
+use Rattle.code.specs.Cells.{zeroed}
+use Rattle.algebra.specs.Grids.{row}
+use Rattle.code.proofs.Rows.{zeroed-over}
+use Rattle.algebra.proofs.Grids.{place, row_at, row_is_slice}
 
 -- the place of row i and column j lies in the grid
 pub at : {m n i j s : ℕ} → s ≡ m * n → i < m → j < n → i * n + j < s

@@ -1,12 +1,8 @@
 -- The numbers of a product, as its calls answer them, and the gate of its sizes. Assumes nothing.
-use Rattle.std.proofs.Common.{◌≡◌, ℕ, ◌+◌, ◌*◌, ◌<◌, ◌≤◌, min, max, Bool, true, false, cond, ◌||◌, eqb, ltb, List, length, IfOk, Ok, Err, Result, sym, refl, ap, ◌∙◌, subst, inl, inr, arith}
-use Rattle.std.proofs.lemmas.Bool.{cases_lt, cases_eq, cond_above, cond-true, cond-false, le-ltb, lt-ltb, eq-eqb, ne_eqb}
+use Rattle.std.proofs.Common.{◌≡◌, ℕ, ◌+◌, ◌*◌, ◌<◌, ◌≤◌, min, max, cond, eqb, ltb, IfOk, Ok, Err, sym, refl, ap, ◌∙◌, inl, inr, arith}
+use Rattle.std.proofs.lemmas.Bool.{cases_lt, cases_eq, cond-true, cond-false, le-ltb, lt-ltb, eq-eqb, ne_eqb}
 use Rattle.code.specs.declared.refusals.Reason.TheVariants.{Oversize, Misfit, WrongTray, Cramped}
-use Rattle.code.specs.declared.refusals.Refusal.{Refusal}
-use Rattle.code.specs.declared.cells.Counts.{Counts}
-use Rattle.code.specs.Cells.{zeroed}
 use Rattle.code.specs.Codes.{Codebook}
-use Rattle.algebra.specs.Grids.{grids}
 use Rattle.code.specs.Calls.{answered, answered_working}
 use Rattle.code.specs.Refusals.{sized, refusal}
 use Rattle.code.specs.Refusals.{Verdict}

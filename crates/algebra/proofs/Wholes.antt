@@ -1,5 +1,5 @@
 -- Of a grid whose columns were read and whose rows were decoded, only the decoded grid can be within reach. Assumes nothing.
-use Rattle.std.proofs.Common.{◌≡◌, ℕ, ◌+◌, ◌*◌, ◌<◌, ◌≤◌, Bool, true, false, ◌≢◌, List, length, get_or, sym, refl, ap, ◌∙◌, subst, inl, inr, arith}
+use Rattle.std.proofs.Common.{◌≡◌, ℕ, ◌+◌, ◌*◌, ◌<◌, ◌≤◌, true, false, List, length, get_or, sym, ap, subst, inl, inr, arith}
 use Rattle.std.proofs.lemmas.Bool.{cases_lt}
 use Rattle.code.specs.declared.cells.Counts.{Counts}
 use Rattle.code.specs.Cells.{blank, cost, wrongs, blanks}
@@ -13,7 +13,7 @@ use Rattle.algebra.proofs.Averages.{one_passes}
 use Rattle.algebra.proofs.Grids.{place, row_at, column_at}
 use Rattle.algebra.proofs.Products.{product_apart}
 use Rattle.algebra.proofs.Reach.{row_weighs}
-use Rattle.algebra.specs.Parts.{Symbols, Weighed, Light, RowsDecoded}
+use Rattle.algebra.specs.Parts.{Symbols, Weighed, RowsDecoded}
 use Rattle.algebra.proofs.Places.{same_rows}
 
 -- numbers as the code has them

@@ -3,8 +3,8 @@ use Rattle.std.specs.Prelude.{◌≡◌, ℕ, ◌+◌, ◌*◌, ◌<◌, ◌≤�
 use Rattle.code.specs.Cells.{good, blank, cost}
 use Rattle.code.specs.declared.cells.Content.TheVariants.{Received}
 use Rattle.code.specs.Codes.{Codebook}
-use Rattle.algebra.specs.Grids.{row, column}
-use Rattle.algebra.specs.Weights.{cut, heft, Found}
+use Rattle.algebra.specs.Grids.{row}
+use Rattle.algebra.specs.Weights.{cut, heft}
 
 -- a code of n cells, small enough to be read, and with its working cells lent
 pub record Ready (s : Codebook) (n lent : ℕ) : Type 0 where

@@ -1,1 +1,2 @@
 // The mathematics of products of codes: definitions and lemmas, and no code.
+#![tactic(auto)]

@@ -1,5 +1,5 @@
 -- The ring laws by one test at all symbols, which antt computes, and the lemma that turns it into the laws. Assumes nothing.
-use Rattle.std.specs.Prelude.{◌≡◌, ℕ, zero, suc, ◌<◌, ◌≤◌, Bool, true, false, ◌&&◌, T, ◌==◌, nat_lt}
+use Rattle.std.specs.Prelude.{ℕ, zero, suc, ◌<◌, ◌≤◌, Bool, true, false, ◌&&◌, T, ◌==◌, nat_lt}
 use Rattle.std.proofs.Common.{sym, subst, ⊎_elim, arith, not-suc-le-zero, eq-or-lt_of_le, eqb→eq, ltb→lt}
 use Rattle.alphabet.specs.Rings.{Ring}
 

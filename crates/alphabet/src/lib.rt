@@ -1,4 +1,6 @@
 // Alphabets: the symbols 0 .. q - 1 with an addition, a negation and a multiplication that obey the laws of a commutative ring.
+#![tactic(auto)]
+
 ghost use Rattle.std.specs.Prelude.{◌≡◌, ℕ, ◌%◌};
 ghost use Rattle.alphabet.specs.Rings.{Ring};
 
@@ -12,6 +14,8 @@ pub use remainders::{Bits, Digits};
 pub trait Alphabet {
     // q, the number of symbols
     const Q: u16;
+
+    ghost Q: { ℕ };
 
     ghost size: { ℕ };
 

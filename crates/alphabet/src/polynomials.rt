@@ -37,6 +37,8 @@ fn pick(bits: u16, a: u16) -> u16
 impl Alphabet for Sixteen {
     const Q: u16 = 16;
 
+    ghost Q = { 16 };
+
     ghost size = { 16 };
 
     ghost plus = { bit_xor };
@@ -49,7 +51,7 @@ impl Alphabet for Sixteen {
 
     fn size() -> u16
         ensures is { result ≡ 16 }
-        ensures* constant { do ⌜ (← (⟦<Sixteen as Alphabet>::Q⟧).exit) ≡ result ⌝ }
+        ensures constant { ⟦<Sixteen as Alphabet>⟧.Q ≡ result }
     {
         Self::Q
     }

@@ -39,6 +39,8 @@ fn multiply_remainders(q: u16, a: u16, b: u16) -> u16
 impl Alphabet for Bits {
     const Q: u16 = 2;
 
+    ghost Q = { 2 };
+
     ghost size = { 2 };
 
     ghost plus = { plus_mod 2 };
@@ -51,7 +53,7 @@ impl Alphabet for Bits {
 
     fn size() -> u16
         ensures is { result ≡ 2 }
-        ensures* constant { do ⌜ (← (⟦<Bits as Alphabet>::Q⟧).exit) ≡ result ⌝ }
+        ensures constant { ⟦<Bits as Alphabet>⟧.Q ≡ result }
     {
         Self::Q
     }
@@ -72,6 +74,8 @@ impl Alphabet for Bits {
 impl Alphabet for Digits {
     const Q: u16 = 10;
 
+    ghost Q = { 10 };
+
     ghost size = { 10 };
 
     ghost plus = { plus_mod 10 };
@@ -84,7 +88,7 @@ impl Alphabet for Digits {
 
     fn size() -> u16
         ensures is { result ≡ 10 }
-        ensures* constant { do ⌜ (← (⟦<Digits as Alphabet>::Q⟧).exit) ≡ result ⌝ }
+        ensures constant { ⟦<Digits as Alphabet>⟧.Q ≡ result }
     {
         Self::Q
     }

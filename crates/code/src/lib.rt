@@ -1,4 +1,6 @@
 // Codes: what every code is, what it shows, and what each call of it answers and leaves.
+#![tactic(auto)]
+
 ghost use Rattle.std.specs.Prelude.{◌≡◌};
 ghost use Rattle.code.specs.Codes.{Codebook, Layout, Apart, Linear};
 ghost use Rattle.code.specs.Calls.{answered, answered_working, answered_place, Reads, Judges, Encodes, TakesOut};

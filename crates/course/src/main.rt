@@ -1,4 +1,5 @@
 // The course: messages are printed as rows and plates, spoiled and read again, and each step is shown.
+#![tactic(auto)]
 use alphabet::{Bits, Digits, Sixteen};
 use faults::Fault;
 use lesson::{blank, exercise, exercise_both_ways, wrong};

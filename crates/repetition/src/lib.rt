@@ -1,4 +1,6 @@
 // The repetition code: words of n equal symbols, n from 1 to 64.
+#![tactic(auto)]
+
 ghost use Rattle.std.specs.Prelude.{◌≡◌, ◌≤◌, true, false, T, Ok, Err};
 ghost use Rattle.code.specs.Calls.{Reads, Judges, Encodes, TakesOut};
 ghost use Rattle.code.specs.Refusals.{refusal};

@@ -1,14 +1,13 @@
 -- What a scan of received cells tells: the word itself, the word with its one blank filled in, or that none is within reach. Assumes nothing.
-use Rattle.std.proofs.Common.{◌≡◌, ℕ, suc, ◌+◌, ◌-◌, ◌*◌, ◌%◌, ◌<◌, ◌≤◌, cond, eqb, ◌≢◌, List, length, get_or, set, sym, refl, ap, ◌∙◌, subst, ap₂, inl, inr, mod-eq_of_lt, arith, length-set, get_or-set_other, get_or-set_same}
+use Rattle.std.proofs.Common.{◌≡◌, ℕ, ◌%◌, ◌<◌, ◌≤◌, cond, eqb, ◌≢◌, List, length, get_or, set, sym, refl, ap, ◌∙◌, subst, ap₂, inl, inr, mod-eq_of_lt, arith, length-set, get_or-set_other, get_or-set_same}
 use Rattle.std.proofs.lemmas.Bool.{cases_eq, cases_lt}
 use Rattle.std.proofs.lemmas.Bool.Decides.{nat_tests}
 use Rattle.alphabet.specs.Rings.{Ring}
-use Rattle.alphabet.specs.Sums.{sum, added}
+use Rattle.alphabet.specs.Sums.{added}
 use Rattle.alphabet.proofs.Additions.{added_same, added-add, added-one}
 use Rattle.alphabet.proofs.Sums.{sum_same, sum_constant, one_place, two_places}
 use Rattle.alphabet.proofs.Symbols.{zero_in, zero-add}
-use Rattle.code.specs.declared.cells.Counts.{Counts}
-use Rattle.code.specs.Cells.{blank, wrong, faint, wrongs, blanks, cost}
+use Rattle.code.specs.Cells.{blank, wrong, faint, wrongs, cost}
 use Rattle.code.specs.Calls.{Within, Beyond}
 use Rattle.code.proofs.Costs.{within}
 use Rattle.sum.specs.declared.scans.Scan.{Scan}

@@ -1,4 +1,6 @@
 // The sum code: words of n symbols that add up to 0, n from 2 to 64.
+#![tactic(auto)]
+
 ghost use Rattle.std.specs.Prelude.{◌≡◌, ◌≤◌, true, false, T, Ok, Err};
 ghost use Rattle.code.specs.Calls.{Reads, Judges, Encodes, TakesOut};
 ghost use Rattle.code.specs.Refusals.{refusal};

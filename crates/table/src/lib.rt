@@ -1,4 +1,5 @@
 // The table code: any short generator, for every alphabet.
+#![tactic(auto)]
 mod calls;
 mod listing;
 mod maker;

@@ -1,4 +1,6 @@
 // The trivial code, whose only word is a single zero: what a code means whose numbers break its limits.
+#![tactic(auto)]
+
 ghost use Rattle.trivial.specs.Limits.{trivial, no_message};
 ghost use Rattle.trivial.specs.LimitsLemmas.{trivial_linear};
 ghost use Rattle.std.proofs.Common.{rules};

@@ -8,11 +8,11 @@ use Rattle.repetition.proofs.judge_repeated.Goals as goal
 pub returns : goal.returns
 returns g c =
     let xs : List ℕ = c.args.cells.now in
-    let long : length xs ≡ c.args.n = c.in-ok-check-lawful.ensures.passed.0 in
-    let tested = c.in-ok-check-cells.ensures.passed 0 (omega arith) in
+    let long : length xs ≡ c.args.n = c.in_ok-check_lawful.ensures.passed.0 in
+    let tested = c.in_ok-check_cells.ensures.passed 0 (omega arith) in
     let below : get_or xs 0 0 < c.size.result = grind (arith, nat_tests) in
     judges_passed c.size.ensures
-    c.in-ok-check-lawful.ensures.is c.in-ok-check-cells.ensures.is refl (
+    c.in_ok-check_lawful.ensures.is c.in_ok-check_cells.ensures.is refl (
       λ _. record {
         symbol = get_or xs 0 0;
         below = omega (arith, below, c.size.ensures);
@@ -24,7 +24,7 @@ returns g c =
 pub returns-then-cell-cells : goal.returns-then-cell-cells
 returns-then-cell-cells g c =
     let xs : List ℕ = c.args.cells.now in
-    let long : length xs ≡ c.args.n = c.in-ok-check-lawful.ensures.passed.0 in
+    let long : length xs ≡ c.args.n = c.in_ok-check_lawful.ensures.passed.0 in
     judges_passed c.size.ensures
-    c.in-ok-check-lawful.ensures.is c.in-ok-check-cells.ensures.is refl
+    c.in_ok-check_lawful.ensures.is c.in_ok-check_cells.ensures.is refl
     (λ t. absurd t, λ h. c.if-cell-cells.true (symbol_at xs h c.loop-cell.cell-index (omega arith) ∙ sym (symbol_at xs h 0 (omega arith))))

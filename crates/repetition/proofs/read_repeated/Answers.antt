@@ -13,15 +13,15 @@ returns-then-counts-n g c =
     let r : List ℕ = c.args.received.now in
     let n : ℕ = c.args.n in
     let v : ℕ = c.elect-symbol.result in
-    let long : length r ≡ n = c.in-ok-check-read.ensures.passed.0 in
-    let counted = c.in-ok-counts.ensures.is in
-    let wrong-is : c.in-ok-counts.counts.wrong ≡ wrongs r (replicate n v) = counted.1 ∙ ap (wrongs r) (front n 64 v c.requires.high) in
-    let blank-is : c.in-ok-counts.counts.blank ≡ blanks r = counted.2 in
+    let long : length r ≡ n = c.in_ok-check_read.ensures.passed.0 in
+    let counted = c.in_ok-counts.ensures.is in
+    let wrong-is : c.in_ok-counts.counts.wrong ≡ wrongs r (replicate n v) = counted.1 ∙ ap (wrongs r) (front n 64 v c.requires.high) in
+    let blank-is : c.in_ok-counts.counts.blank ≡ blanks r = counted.2 in
     let here : n ≤ cost r (replicate n v) = omega (arith, c.if-counts-n.true) in
     let others : (u : ℕ) → u ≢ v → n ≤ cost r (replicate n u) =
     λ u ne. subst (λ (m : ℕ). m ≤ cost r (replicate m u)) long (c.elect-symbol.ensures.others u ne) in
     reads_passed {a' = c.args.answer.now} c.size.ensures
-    c.in-ok-check-read.ensures.is c.in-ok-check-cells.ensures.is refl
+    c.in_ok-check_read.ensures.is c.in_ok-check_cells.ensures.is refl
     (c.at.ensures, none_near g.S.Alphabet.size n v r others here, refl)
 
 pub returns : goal.returns
@@ -30,16 +30,16 @@ returns g c =
     let n : ℕ = c.args.n in
     let q : ℕ = g.S.Alphabet.size in
     let v : ℕ = c.elect-symbol.result in
-    let fit = c.in-ok-check-read.ensures.passed in
-    let counted = c.in-ok-counts.ensures.is in
+    let fit = c.in_ok-check_read.ensures.passed in
+    let counted = c.in_ok-counts.ensures.is in
     let below : v < q =
     subst (λ (m : ℕ). v < m) c.size.ensures
-    (c.elect-symbol.ensures.symbol c.size.result (omega (arith, zero_in g.met.S.Alphabet.ring, c.size.ensures)) c.in-ok-check-cells.ensures.passed) in
-    let near : Within (repeats q n) r (replicate n v) c.in-ok-counts.counts =
-    within (repeats q n) (repeats_apart q n c.requires.low) r fit.0 (replicate n v) c.in-ok-counts.counts
+    (c.elect-symbol.ensures.symbol c.size.result (omega (arith, zero_in g.met.S.Alphabet.ring, c.size.ensures)) c.in_ok-check_cells.ensures.passed) in
+    let near : Within (repeats q n) r (replicate n v) c.in_ok-counts.counts =
+    within (repeats q n) (repeats_apart q n c.requires.low) r fit.0 (replicate n v) c.in_ok-counts.counts
     (word q n v below)
     (counted.1 ∙ ap (wrongs r) (front n 64 v c.requires.high)) counted.2 c.if-counts-n.false in
     let filled : c.fill.new.self ≡ replicate n v = c.fill.ensures.after (λ y e. e) ∙ ap (λ m. replicate m v) fit.1 in
     reads_passed {a' = c.fill.new.self} c.size.ensures
-    c.in-ok-check-read.ensures.is c.in-ok-check-cells.ensures.is refl
-    (subst (λ (a : List ℕ). Within (repeats q n) r a c.in-ok-counts.counts) (sym filled) near)
+    c.in_ok-check_read.ensures.is c.in_ok-check_cells.ensures.is refl
+    (subst (λ (a : List ℕ). Within (repeats q n) r a c.in_ok-counts.counts) (sym filled) near)

@@ -8,5 +8,5 @@ returns g c =
     let w : List ℕ = c.args.word.now in
     let a : List ℕ = c.args.answer.now in
     takes_passed c.size.ensures
-    c.in-ok-check-take-out.ensures.is c.in-ok-check-cells.ensures.is
-    (put_one a (get_or w 0 0) c.in-ok-check-take-out.ensures.passed.1)
+    c.in_ok-check_take_out.ensures.is c.in_ok-check_cells.ensures.is
+    (put_one a (get_or w 0 0) c.in_ok-check_take_out.ensures.passed.1)

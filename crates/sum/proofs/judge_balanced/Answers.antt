@@ -1,4 +1,4 @@
-use Rattle.std.proofs.Common.{◌≡◌, ℕ, ◌≤◌, true, T, eqb, List, length, get_or, sym, refl, subst, arith, eqb→eq}
+use Rattle.std.proofs.Common.{◌≡◌, ℕ, ◌≤◌, T, eqb, List, length, sym, refl, subst, arith, eqb→eq}
 use Rattle.code.proofs.Checks.{judges_passed}
 use Rattle.sum.proofs.Scanning.{Clean, word-clean, no_blanks}
 use Rattle.sum.proofs.Reading.{balanced, total_of}
@@ -9,15 +9,15 @@ returns g c =
     let r : List ℕ = c.args.cells.now in
     let n : ℕ = c.args.n in
     let ring = g.met.S.Alphabet.ring in
-    let s = c.scan-cells.result in
-    let long : length r ≡ n = c.in-ok-check-lawful.ensures.passed.0 in
+    let s = c.scan_cells.result in
+    let long : length r ≡ n = c.in_ok-check_lawful.ensures.passed.0 in
     let few : c.size.result ≤ 65535 = omega (arith, ring.high, c.size.ensures) in
-    let words = word-clean c.size.result r few c.in-ok-check-cells.ensures.passed in
+    let words = word-clean c.size.result r few c.in_ok-check_cells.ensures.passed in
     let clean : Clean g.S.Alphabet.size r = subst (λ (q : ℕ). Clean q r) c.size.ensures words in
-    let none = no_blanks c.size.result r few c.in-ok-check-cells.ensures.passed in
-    let clear : s.blanks ≡ 0 = omega (arith, none, c.scan-cells.ensures.is.blanks) in
+    let none = no_blanks c.size.result r few c.in_ok-check_cells.ensures.passed in
+    let clear : s.blanks ≡ 0 = omega (arith, none, c.scan_cells.ensures.is.blanks) in
     judges_passed c.size.ensures
-    c.in-ok-check-lawful.ensures.is c.in-ok-check-cells.ensures.is refl (
-      λ t. balanced ring n c.requires.low r long clean s c.scan-cells.ensures.is clear (eqb→eq s.total 0 t),
-      λ h. subst (λ (x : ℕ). T (eqb x 0)) (sym (total_of ring n c.requires.low r long clean s c.scan-cells.ensures.is clear h)) tt,
+    c.in_ok-check_lawful.ensures.is c.in_ok-check_cells.ensures.is refl (
+      λ t. balanced ring n c.requires.low r long clean s c.scan_cells.ensures.is clear (eqb→eq s.total 0 t),
+      λ h. subst (λ (x : ℕ). T (eqb x 0)) (sym (total_of ring n c.requires.low r long clean s c.scan_cells.ensures.is clear h)) tt,
     )

@@ -1,6 +1,5 @@
-use Rattle.std.proofs.Common.{◌≡◌, ℕ, ◌-◌, List, length, get_or, take, sym, refl, ap, ◌∙◌, arith}
+use Rattle.std.proofs.Common.{◌≡◌, ℕ, ◌-◌, List, get_or, take, ap, ◌∙◌, arith}
 use Rattle.std.proofs.lemmas.List.{get_or-take}
-use Rattle.code.specs.Cells.{listed}
 use Rattle.code.proofs.Checks.{takes_passed}
 use Rattle.code.proofs.Rows.{is_listed}
 use Rattle.sum.proofs.take_balanced.Goals as goal
@@ -9,9 +8,9 @@ pub returns : goal.returns
 returns g c =
     let w : List ℕ = c.args.word.now in
     let k : ℕ = c.args.n - 1 in
-    let fit = c.in-ok-check-take-out.ensures.passed in
-    let a : List ℕ = c.copy-from-slice.new.self in
-    let copied : a ≡ take (k - 0) w = c.copy-from-slice.ensures.after in
+    let fit = c.in_ok-check_take_out.ensures.passed in
+    let a : List ℕ = c.copy_from_slice.new.self in
+    let copied : a ≡ take (k - 0) w = c.copy_from_slice.ensures.after in
     takes_passed c.size.ensures
-    c.in-ok-check-take-out.ensures.is c.in-ok-check-cells.ensures.is
-    (is_listed k (λ i. get_or w i 0) a (omega (arith, c.copy-from-slice.ensures.len)) (λ i l. ap (λ u. get_or u i 0) copied ∙ get_or-take (k - 0) w i 0 (omega arith)))
+    c.in_ok-check_take_out.ensures.is c.in_ok-check_cells.ensures.is
+    (is_listed k (λ i. get_or w i 0) a (omega (arith, c.copy_from_slice.ensures.len)) (λ i l. ap (λ u. get_or u i 0) copied ∙ get_or-take (k - 0) w i 0 (omega arith)))

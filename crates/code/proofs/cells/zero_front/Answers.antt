@@ -1,4 +1,4 @@
-use Rattle.std.proofs.Common.{◌≡◌, ℕ, min, List, ◌++◌, length, drop, replicate, sym, ◌∙◌, rules}
+use Rattle.std.proofs.Common.{ℕ, min, List, ◌++◌, length, drop, replicate, sym, ◌∙◌, rules}
 use Rattle.code.proofs.Rows.{zeroed_min}
 use Rattle.code.proofs.cells.zero_front.Goals as goal
 

@@ -8,7 +8,7 @@ pub loop-i-preserved : goal.loop-i-preserved
 loop-i-preserved c =
     let xs : List ℕ = c.args.message.now in
     let i : ℕ = c.loop-i.i in
-    c.in-ok-write.ensures.bytes
+    c.in_ok-write.ensures.bytes
     ∙ (ap (λ (x : List ℕ). x ++ tabbed (get_or xs i 0)) c.loop-i.invariant
     ∙ (flat_map_more tabbed (string_bytes c.args.out.now) (take i xs) (get_or xs i 0)
     ∙ ap (λ (x : List ℕ). string_bytes c.args.out.now ++ flat_map tabbed x) (sym (take_more xs i 0 c.loop-i-test.true))))

@@ -6,6 +6,6 @@ use Rattle.lines.proofs.names.is_word.Goals as goal
 
 pub returns : goal.returns
 returns c =
-    same_from_decides c.eq.result (bytes_eq c.args.field.now c.as-bytes.result.now)
-    (slice_eq-Decides Decides-eqb c.args.field.now c.as-bytes.result.now c.eq.result c.eq.ensures) (bytes_eq-Decides c.args.field.now c.as-bytes.result.now)
-    ∙ ap (λ (x : List ℕ). bytes_eq c.args.field.now x) c.as-bytes.ensures.value
+    same_from_decides c.eq.result (bytes_eq c.args.field.now c.as_bytes.result.now)
+    (slice_eq-Decides Decides-eqb c.args.field.now c.as_bytes.result.now c.eq.result c.eq.ensures) (bytes_eq-Decides c.args.field.now c.as_bytes.result.now)
+    ∙ ap (λ (x : List ℕ). bytes_eq c.args.field.now x) c.as_bytes.ensures.value

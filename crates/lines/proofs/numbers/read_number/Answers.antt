@@ -4,8 +4,8 @@ use Rattle.std.proofs.lemmas.List.{take_all}
 use Rattle.lines.proofs.Numerals.{numeral_long, numeral_led, numeral-digit, numeral_value, numeral_read, ten_five, step}
 use Rattle.lines.proofs.numbers.read_number.Goals as goal
 
-pub returns-then-is-empty : goal.returns-then-is-empty
-returns-then-is-empty c = λ n h. let l = numeral_long c.args.field.now n h in grind arith
+pub returns-then-is_empty : goal.returns-then-is_empty
+returns-then-is_empty c = λ n h. let l = numeral_long c.args.field.now n h in grind arith
 
 pub returns-then-field-gt1 : goal.returns-then-field-gt1
 returns-then-field-gt1 c = λ n h. omega (arith, numeral_led c.args.field.now n h c.if-field-eq48.true)
@@ -16,11 +16,11 @@ loop-i-init c = (refl, tt, omega arith)
 pub returns-then-b-lt48 : goal.returns-then-b-lt48
 returns-then-b-lt48 c = λ n h. let d = numeral-digit c.args.field.now n c.loop-i.i h c.loop-i-test.true in grind arith
 
-pub overflow-mul-n : goal.overflow-mul-n
-overflow-mul-n c = omega (arith, ten_five c.loop-i.i (omega arith))
+pub overflow_mul-n : goal.overflow_mul-n
+overflow_mul-n c = omega (arith, ten_five c.loop-i.i (omega arith))
 
-pub overflow-add-n : goal.overflow-add-n
-overflow-add-n c = omega (arith, ten_five c.loop-i.i (omega arith))
+pub overflow_add-n : goal.overflow_add-n
+overflow_add-n c = omega (arith, ten_five c.loop-i.i (omega arith))
 
 pub loop-i-preserved : goal.loop-i-preserved
 loop-i-preserved c =

@@ -8,8 +8,8 @@ use Rattle.code.specs.Refusals.{Verdict}
 use Rattle.algebra.proofs.Lines.{good_symbols}
 use Rattle.product.proofs.judge.judge.Goals as goal
 
-pub grid-lawful-requires : goal.grid-lawful-requires
-grid-lawful-requires g c =
+pub grid_lawful-requires : goal.grid_lawful-requires
+grid_lawful-requires g c =
     let a = g.A.Code.codebook c.args.columns.now in
     let sa = g.met.A.Code.symbols c.args.columns.now in
     let sb = g.met.B.Code.symbols c.args.rows.now in
@@ -18,8 +18,8 @@ grid-lawful-requires g c =
       size = c.requires.size;
       room = c.requires.room;
       same = sa ∙ sym sb;
-      small = omega (arith, is, c.size.type-inv);
-      symbols = good_symbols a.q c.size.result c.args.cells.now is c.in-ok-check-cells.ensures.passed;
+      small = omega (arith, is, c.size.type_inv);
+      symbols = good_symbols a.q c.size.result c.args.cells.now is c.in_ok-check_cells.ensures.passed;
     }
 
 pub returns : goal.returns
@@ -27,6 +27,6 @@ returns g c =
     let a = g.A.Code.codebook c.args.columns.now in
     let b = g.B.Code.codebook c.args.rows.now in
     let is : c.size.result ≡ a.q = c.size.ensures ∙ sym (g.met.A.Code.symbols c.args.columns.now) in
-    subst (λ (v : Verdict). judges v (grids a b) c.args.cells.now (Ok c.grid-lawful.result))
-    (subst (λ (q : ℕ). ◌≡◌ {A = Verdict} (Ok tt) (clean (good Word q) c.args.cells.now)) is c.in-ok-check-cells.ensures.is)
-    c.grid-lawful.ensures
+    subst (λ (v : Verdict). judges v (grids a b) c.args.cells.now (Ok c.grid_lawful.result))
+    (subst (λ (q : ℕ). ◌≡◌ {A = Verdict} (Ok tt) (clean (good Word q) c.args.cells.now)) is c.in_ok-check_cells.ensures.is)
+    c.grid_lawful.ensures

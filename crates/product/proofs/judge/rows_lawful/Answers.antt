@@ -5,14 +5,14 @@ use Rattle.algebra.proofs.Places.{row_end, row-part}
 use Rattle.algebra.proofs.Lines.{ready_at, row_symbols}
 use Rattle.product.proofs.judge.rows_lawful.Goals as goal
 
-pub offset-bounds-grid-from : goal.offset-bounds-grid-from
-offset-bounds-grid-from g c = omega (arith, row_end c.args.n2 c.loop-i.i c.args.n1 c.loop-i-test.true)
+pub offset_bounds-grid-from : goal.offset_bounds-grid-from
+offset_bounds-grid-from g c = omega (arith, row_end c.args.n2 c.loop-i.i c.args.n1 c.loop-i-test.true)
 
-pub slice-bounds-line-lawful-end : goal.slice-bounds-line-lawful-end
-slice-bounds-line-lawful-end g c = omega (arith, row_end c.args.n2 c.loop-i.i c.args.n1 c.loop-i-test.true)
+pub slice_bounds-line_lawful-end : goal.slice_bounds-line_lawful-end
+slice_bounds-line_lawful-end g c = omega (arith, row_end c.args.n2 c.loop-i.i c.args.n1 c.loop-i-test.true)
 
-pub line-lawful-requires : goal.line-lawful-requires
-line-lawful-requires g c =
+pub line_lawful-requires : goal.line_lawful-requires
+line_lawful-requires g c =
     let s = g.C.Code.codebook c.args.code.now in
     let i : ℕ = c.loop-i.i in
     let n : ℕ = c.args.n2 in
@@ -26,15 +26,15 @@ line-lawful-requires g c =
       symbols = row_symbols s.q n i x _ fits same c.requires.symbols;
     }
 
-pub returns-then-not-line-lawful : goal.returns-then-not-line-lawful
-returns-then-not-line-lawful g c =
+pub returns-then-not-line_lawful : goal.returns-then-not-line_lawful
+returns-then-not-line_lawful g c =
     let s = g.C.Code.codebook c.args.code.now in
     let i : ℕ = c.loop-i.i in
     let n : ℕ = c.args.n2 in
     let x : List ℕ = c.args.grid.now in
     let end = row_end n i c.args.n1 c.loop-i-test.true in
     let fits : i * n + n ≤ length x = omega (arith, end, c.requires.fits.0) in
-    (λ t. absurd t, λ h. c.if-not-line-lawful.ensures.1 (subst (λ (y : List ℕ). s.Word y) (sym (row-part n i x fits)) (h i c.loop-i-test.true)))
+    (λ t. absurd t, λ h. c.if-not-line_lawful.ensures.1 (subst (λ (y : List ℕ). s.Word y) (sym (row-part n i x fits)) (h i c.loop-i-test.true)))
 
 pub loop-i-preserved : goal.loop-i-preserved
 loop-i-preserved g c =
@@ -44,4 +44,4 @@ loop-i-preserved g c =
     let x : List ℕ = c.args.grid.now in
     let end = row_end n i c.args.n1 c.loop-i-test.true in
     let fits : i * n + n ≤ length x = omega (arith, end, c.requires.fits.0) in
-    below_more (λ k. s.Word (row n x k)) i c.loop-i.invariant (subst (λ (y : List ℕ). s.Word y) (row-part n i x fits) (c.if-not-line-lawful.ensures.0 tt))
+    below_more (λ k. s.Word (row n x k)) i c.loop-i.invariant (subst (λ (y : List ℕ). s.Word y) (row-part n i x fits) (c.if-not-line_lawful.ensures.0 tt))

@@ -3,18 +3,18 @@ use Rattle.algebra.proofs.Places.{side1, side2}
 use Rattle.algebra.proofs.Combining.{absent_up, present_along, present, place_below}
 use Rattle.product.proofs.pick.combine_places.Goals as goal
 
-pub length-of-n2-requires : goal.length-of-n2-requires
-length-of-n2-requires g c =
+pub length_of-n2-requires : goal.length_of-n2-requires
+length_of-n2-requires g c =
     let p = g.met.A.Code.apart c.args.columns.now in
     side2 (g.A.Code.codebook c.args.columns.now).n _ _ (omega (arith, p.positive, p.short)) c.requires
 
-pub message-length-of-k2-requires : goal.message-length-of-k2-requires
-message-length-of-k2-requires g c =
+pub message_length_of-k2-requires : goal.message_length_of-k2-requires
+message_length_of-k2-requires g c =
     let p = g.met.A.Code.apart c.args.columns.now in
     side2 (g.A.Code.codebook c.args.columns.now).n _ _ (omega (arith, p.positive, p.short)) c.requires
 
-pub returns-in-err-up : goal.returns-in-err-up
-returns-in-err-up g c =
+pub returns-in_err-up : goal.returns-in_err-up
+returns-in_err-up g c =
     let a = g.A.Code.codebook c.args.columns.now in
     let b = g.B.Code.codebook c.args.rows.now in
     let p = g.met.A.Code.apart c.args.columns.now in
@@ -23,32 +23,32 @@ returns-in-err-up g c =
     let wide : b.n ≤ 4096 = side2 a.n _ _ (omega (arith, p.positive, p.short)) c.requires in
     let none = c.from-residual.ensures in
     record {
-      is = none ∙ absent_up a b (g.A.Code.layout c.args.columns.now) (g.B.Code.layout c.args.rows.now) c.args.i c.message-length-of-k2.result c.length-of-n2.result
-          c.message-length-of-k2.ensures.0 c.length-of-n2.ensures c.if-k2-eq0.false tall wide c.in-err-up.ensures;
+      is = none ∙ absent_up a b (g.A.Code.layout c.args.columns.now) (g.B.Code.layout c.args.rows.now) c.args.i c.message_length_of-k2.result c.length_of-n2.result
+          c.message_length_of-k2.ensures.0 c.length_of-n2.ensures c.if-k2-eq0.false tall wide c.in_err-up.ensures;
       inside = subst (λ (o : Option ℕ). IfSome o (λ x. x < a.n * b.n)) (sym none) tt;
     }
 
-pub returns-in-err-along : goal.returns-in-err-along
-returns-in-err-along g c =
+pub returns-in_err-along : goal.returns-in_err-along
+returns-in_err-along g c =
     let a = g.A.Code.codebook c.args.columns.now in
     let b = g.B.Code.codebook c.args.rows.now in
     let p = g.met.A.Code.apart c.args.columns.now in
     let q = g.met.B.Code.apart c.args.rows.now in
     let tall : a.n ≤ 4096 = side1 _ b.n _ (omega (arith, q.positive, q.short)) c.requires in
     let wide : b.n ≤ 4096 = side2 a.n _ _ (omega (arith, p.positive, p.short)) c.requires in
-    absurd (present_along a b (g.A.Code.layout c.args.columns.now) (g.B.Code.layout c.args.rows.now) c.args.i c.message-length-of-k2.result c.length-of-n2.result
-    c.message-length-of-k2.ensures.0 c.length-of-n2.ensures c.if-k2-eq0.false tall wide c.in-err-along.ensures)
+    absurd (present_along a b (g.A.Code.layout c.args.columns.now) (g.B.Code.layout c.args.rows.now) c.args.i c.message_length_of-k2.result c.length_of-n2.result
+    c.message_length_of-k2.ensures.0 c.length_of-n2.ensures c.if-k2-eq0.false tall wide c.in_err-along.ensures)
 
-pub overflow-add-result : goal.overflow-add-result
-overflow-add-result g c =
+pub overflow_add-result : goal.overflow_add-result
+overflow_add-result g c =
     let a = g.A.Code.codebook c.args.columns.now in
     let b = g.B.Code.codebook c.args.rows.now in
     let p = g.met.A.Code.apart c.args.columns.now in
     let q = g.met.B.Code.apart c.args.rows.now in
     let tall : a.n ≤ 4096 = side1 _ b.n _ (omega (arith, q.positive, q.short)) c.requires in
     let wide : b.n ≤ 4096 = side2 a.n _ _ (omega (arith, p.positive, p.short)) c.requires in
-    let below = place_below a b (g.A.Code.layout c.args.columns.now) (g.B.Code.layout c.args.rows.now) c.args.i c.message-length-of-k2.result c.length-of-n2.result
-    c.message-length-of-k2.ensures.0 c.length-of-n2.ensures c.if-k2-eq0.false tall wide c.in-ok-up.up c.in-ok-along.along c.in-ok-up.ensures c.in-ok-along.ensures
+    let below = place_below a b (g.A.Code.layout c.args.columns.now) (g.B.Code.layout c.args.rows.now) c.args.i c.message_length_of-k2.result c.length_of-n2.result
+    c.message_length_of-k2.ensures.0 c.length_of-n2.ensures c.if-k2-eq0.false tall wide c.in_ok-up.up c.in_ok-along.along c.in_ok-up.ensures c.in_ok-along.ensures
     (g.met.A.Code.linear c.args.columns.now).inside (g.met.B.Code.linear c.args.rows.now).inside in
     omega (arith, below, c.requires)
 
@@ -61,9 +61,9 @@ returns g c =
     let tall : a.n ≤ 4096 = side1 _ b.n _ (omega (arith, q.positive, q.short)) c.requires in
     let wide : b.n ≤ 4096 = side2 a.n _ _ (omega (arith, p.positive, p.short)) c.requires in
     record {
-      is = present a b (g.A.Code.layout c.args.columns.now) (g.B.Code.layout c.args.rows.now) c.args.i c.message-length-of-k2.result c.length-of-n2.result
-          c.message-length-of-k2.ensures.0 c.length-of-n2.ensures c.if-k2-eq0.false tall wide c.in-ok-up.up c.in-ok-along.along c.in-ok-up.ensures c.in-ok-along.ensures;
-      inside = place_below a b (g.A.Code.layout c.args.columns.now) (g.B.Code.layout c.args.rows.now) c.args.i c.message-length-of-k2.result c.length-of-n2.result
-          c.message-length-of-k2.ensures.0 c.length-of-n2.ensures c.if-k2-eq0.false tall wide c.in-ok-up.up c.in-ok-along.along c.in-ok-up.ensures c.in-ok-along.ensures
+      is = present a b (g.A.Code.layout c.args.columns.now) (g.B.Code.layout c.args.rows.now) c.args.i c.message_length_of-k2.result c.length_of-n2.result
+          c.message_length_of-k2.ensures.0 c.length_of-n2.ensures c.if-k2-eq0.false tall wide c.in_ok-up.up c.in_ok-along.along c.in_ok-up.ensures c.in_ok-along.ensures;
+      inside = place_below a b (g.A.Code.layout c.args.columns.now) (g.B.Code.layout c.args.rows.now) c.args.i c.message_length_of-k2.result c.length_of-n2.result
+          c.message_length_of-k2.ensures.0 c.length_of-n2.ensures c.if-k2-eq0.false tall wide c.in_ok-up.up c.in_ok-along.along c.in_ok-up.ensures c.in_ok-along.ensures
           (g.met.A.Code.linear c.args.columns.now).inside (g.met.B.Code.linear c.args.rows.now).inside;
     }

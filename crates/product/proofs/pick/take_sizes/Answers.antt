@@ -11,8 +11,8 @@ returns g c =
     let lb = g.B.Code.layout c.args.rows.now in
     let s = grids a b in
     let few : la.k * lb.k ≤ a.n * b.n = mul-le-mul (g.met.A.Code.linear c.args.columns.now).few (g.met.B.Code.linear c.args.rows.now).few in
-    let is = c.check-take-out.ensures.is ∙ gate_take s c.args.n c.args.w (length c.args.word.now) (length c.args.answer.now) c.args.k (la.k * lb.k) c.requires.long c.requires.room c.requires.messages few in
+    let is = c.check_take_out.ensures.is ∙ gate_take s c.args.n c.args.w (length c.args.word.now) (length c.args.answer.now) c.args.k (la.k * lb.k) c.requires.long c.requires.room c.requires.messages few in
     record {
       is = is;
-      passed = both_made _ _ _ c.check-take-out.result (λ p q. (p.0, q.0, q.1)) (limits_told s.n s.working (length c.args.word.now) s.n (length c.args.answer.now) (la.k * lb.k) 0 0 _ is) (sized_tells s.n s.working (length c.args.word.now) s.n (length c.args.answer.now) (la.k * lb.k) 0 0 _ is);
+      passed = both_made _ _ _ c.check_take_out.result (λ p q. (p.0, q.0, q.1)) (limits_told s.n s.working (length c.args.word.now) s.n (length c.args.answer.now) (la.k * lb.k) 0 0 _ is) (sized_tells s.n s.working (length c.args.word.now) s.n (length c.args.answer.now) (la.k * lb.k) 0 0 _ is);
     }

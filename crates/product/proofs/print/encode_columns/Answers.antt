@@ -7,8 +7,8 @@ use Rattle.algebra.proofs.Grids.{column_at}
 use Rattle.algebra.proofs.Lines.{ready_at}
 use Rattle.product.proofs.print.encode_columns.Goals as goal
 
-pub encode-column-requires : goal.encode-column-requires
-encode-column-requires g c =
+pub encode_column-requires : goal.encode_column-requires
+encode_column-requires g c =
     let s = g.C.Code.codebook c.args.code.now in
     let la = g.C.Code.layout c.args.code.now in
     let ll = g.met.C.Code.linear c.args.code.now in
@@ -38,11 +38,11 @@ loop-j-preserved g c =
     let j : ℕ = c.loop-j.j in
     let x0 : List ℕ = c.args.grid.now in
     let x : List ℕ = c.loop-j.grid in
-    let y : List ℕ = c.encode-column.new.grid in
+    let y : List ℕ = c.encode_column.new.grid in
     let ew : length c.loop-j.word ≡ n = c.loop-j.auto.word ∙ c.requires.long.1 in
     let F : ℕ → ℕ → ℕ = λ k l. get_or x0 (la.place l * n2 + k) 0 in
     let stay : (k : ℕ) → k < n2 → k ≢ j → column n n2 y k ≡ column n n2 x k =
-    λ k l ne. subst (λ (i : ℕ). column i n2 y k ≡ column i n2 x k) ew (c.encode-column.ensures.others k l ne) in
+    λ k l ne. subst (λ (i : ℕ). column i n2 y k ≡ column i n2 x k) ew (c.encode_column.ensures.others k l ne) in
     let message : listed la.k (λ l. get_or x (la.place l * n2 + j) 0) ≡ listed la.k (F j) =
     listed_same la.k _ _ (λ l h.
     let i : la.place l < n = omega (arith, ll.inside l h, c.requires.ready.long) in
@@ -50,8 +50,8 @@ loop-j-preserved g c =
     let P : ℕ → List ℕ → Type 0 = λ k v. s.Word v × Carries la (listed la.k (F k)) v in (
       below_more (λ k. P k (column n n2 y k)) j
           (λ k h. subst (λ (v : List ℕ). P k v) (sym (stay k (omega (arith, h, c.loop-j-test.true)) (λ q. omega (arith, q, h)))) (c.loop-j.invariant.0 k h)) (
-            subst (λ (i : ℕ). s.Word (column i n2 y j)) ew c.encode-column.ensures.word,
-            subst (λ (u : List ℕ). Carries la u (column n n2 y j)) message (subst (λ (i : ℕ). Carries la (listed la.k (λ l. get_or x (la.place l * n2 + j) 0)) (column i n2 y j)) ew c.encode-column.ensures.carries),
+            subst (λ (i : ℕ). s.Word (column i n2 y j)) ew c.encode_column.ensures.word,
+            subst (λ (u : List ℕ). Carries la u (column n n2 y j)) message (subst (λ (i : ℕ). Carries la (listed la.k (λ l. get_or x (la.place l * n2 + j) 0)) (column i n2 y j)) ew c.encode_column.ensures.carries),
           ),
       λ k l h. stay k h (λ q. omega (arith, q, l)) ∙ c.loop-j.invariant.1 k (omega arith) h,
     )

@@ -19,8 +19,8 @@ solve-requires g c =
       tray = c.requires.tray;
       room = c.requires.room;
       same = sa ∙ sym sb;
-      symbols = omega (arith, is, c.size.type-inv);
-      taken = subst (λ (q : ℕ). Taken q c.args.received.now) is c.in-ok-check-cells.ensures.passed;
+      symbols = omega (arith, is, c.size.type_inv);
+      taken = subst (λ (q : ℕ). Taken q c.args.received.now) is c.in_ok-check_cells.ensures.passed;
     }
 
 pub returns : goal.returns
@@ -29,5 +29,5 @@ returns g c =
     let b = g.B.Code.codebook c.args.rows.now in
     let is : c.size.result ≡ a.q = c.size.ensures ∙ sym (g.met.A.Code.symbols c.args.columns.now) in
     subst (λ (v : Verdict). reads v (grids a b) c.args.received.now c.args.answer.now c.solve.new.answer c.solve.result)
-    (subst (λ (q : ℕ). ◌≡◌ {A = Verdict} (Ok tt) (clean (good Received q) c.args.received.now)) is c.in-ok-check-cells.ensures.is)
+    (subst (λ (q : ℕ). ◌≡◌ {A = Verdict} (Ok tt) (clean (good Received q) c.args.received.now)) is c.in_ok-check_cells.ensures.is)
     c.solve.ensures

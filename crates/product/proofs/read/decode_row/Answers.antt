@@ -13,5 +13,5 @@ loop-t-preserved g c =
     let s = g.C.Code.codebook c.args.code.now in (
       c.loop-t.invariant.0,
       below_more (λ k. HeavyAt s c.args.d1 c.args.weights.now c.args.cells.now (k + 1)) c.loop-t.t c.loop-t.invariant.1
-          (subst (λ (x : List ℕ). Renewed s c.args.d1 c.args.weights.now x c.loop-t.t c.try-fresh.new.word false) c.loop-t.invariant.0 c.if-try-fresh.ensures c.loop-t.invariant.1),
+          (subst (λ (x : List ℕ). Renewed s c.args.d1 c.args.weights.now x c.loop-t.t c.try_fresh.new.word false) c.loop-t.invariant.0 c.if-try_fresh.ensures c.loop-t.invariant.1),
     )

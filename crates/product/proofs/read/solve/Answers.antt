@@ -2,13 +2,13 @@ use Rattle.std.proofs.Common.{ℕ, ◌*◌, ◌≤◌, arith}
 use Rattle.algebra.proofs.Places.{side1, side2}
 use Rattle.product.proofs.read.solve.Goals as goal
 
-pub length-of-n2-requires : goal.length-of-n2-requires
-length-of-n2-requires g c =
+pub length_of-n2-requires : goal.length_of-n2-requires
+length_of-n2-requires g c =
     let p = g.met.A.Code.apart c.args.columns.now in
     side2 (g.A.Code.codebook c.args.columns.now).n _ _ (omega (arith, p.positive, p.short)) c.requires.size.0
 
-pub length-of-requires : goal.length-of-requires
-length-of-requires g c =
+pub length_of-requires : goal.length_of-requires
+length_of-requires g c =
     let p = g.met.B.Code.apart c.args.rows.now in
     side1 _ (g.B.Code.codebook c.args.rows.now).n _ (omega (arith, p.positive, p.short)) c.requires.size.0
 

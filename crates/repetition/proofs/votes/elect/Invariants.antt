@@ -1,4 +1,4 @@
-use Rattle.std.proofs.Common.{◌≡◌, ℕ, ◌+◌, ◌<◌, ◌≤◌, true, length, get_or}
+use Rattle.std.proofs.Common.{◌≡◌, ℕ, ◌<◌, ◌≤◌, true, length, get_or}
 use Rattle.alphabet.specs.Sums.{sum}
 use Rattle.code.specs.Cells.{good, price}
 use Rattle.code.specs.declared.cells.Content.TheVariants.{Received}

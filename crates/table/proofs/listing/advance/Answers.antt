@@ -10,16 +10,16 @@ pub returns-then-symbol-q : goal.returns-then-symbol-q
 returns-then-symbol-q g c =
     let q : ℕ = g.S.Alphabet.size in
     let x : ℕ → ℕ = λ j. get_or c.loop-i.word j 0 in
-    let y : ℕ → ℕ = λ j. get_or c.change-symbol.new.word j 0 in
-    let more = number_next q c.args.k x y c.loop-i.i c.loop-i-test.true c.change-symbol.ensures.others c.change-symbol.ensures.here in
-    record { tabled = c.change-symbol.ensures.tabled; next = λ _. omega (arith, more, c.loop-i.invariant.1) }
+    let y : ℕ → ℕ = λ j. get_or c.change_symbol.new.word j 0 in
+    let more = number_next q c.args.k x y c.loop-i.i c.loop-i-test.true c.change_symbol.ensures.others c.change_symbol.ensures.here in
+    record { tabled = c.change_symbol.ensures.tabled; next = λ _. omega (arith, more, c.loop-i.invariant.1) }
 
 pub loop-i-preserved : goal.loop-i-preserved
 loop-i-preserved g c =
     let q : ℕ = g.S.Alphabet.size in
     let x : ℕ → ℕ = λ j. get_or c.loop-i.word j 0 in
-    let y : ℕ → ℕ = λ j. get_or c.change-symbol-in-loop-i.new.word j 0 in
+    let y : ℕ → ℕ = λ j. get_or c.change_symbol-in-loop-i.new.word j 0 in
     let low : x c.loop-i.i < q = c.loop-i.invariant.0.symbols c.loop-i.i (omega (arith, c.loop-i-test.true)) in
     let full : x c.loop-i.i + 1 ≡ q = omega (arith, low, c.if-symbol-q.false, c.size-q.ensures) in
-    let carried = number_wrap q c.args.k x y c.loop-i.i c.loop-i-test.true c.change-symbol-in-loop-i.ensures.others c.change-symbol-in-loop-i.ensures.here full in
-    (c.change-symbol-in-loop-i.ensures.tabled, omega (arith, carried, c.loop-i.invariant.1))
+    let carried = number_wrap q c.args.k x y c.loop-i.i c.loop-i-test.true c.change_symbol-in-loop-i.ensures.others c.change_symbol-in-loop-i.ensures.here full in
+    (c.change_symbol-in-loop-i.ensures.tabled, omega (arith, carried, c.loop-i.invariant.1))

@@ -4,13 +4,13 @@ use Rattle.table.specs.Tables.{Generator, generator}
 use Rattle.table.proofs.Changes.{Changing, unchanged, change_more, change_is, changed_tabled, changed_here, changed_others}
 use Rattle.table.proofs.listing.change_symbol.Goals as goal
 
-pub overflow-add-i : goal.overflow-add-i
-overflow-add-i g c =
+pub overflow_add-i : goal.overflow_add-i
+overflow_add-i g c =
     let h : c.args.i * c.args.m + c.loop-j.j < length c.args.rows.now = omega (arith, digits_lt c.requires.inside c.loop-j-test.true, c.requires.table) in
     search rules
 
-pub offset-bounds-rows-i : goal.offset-bounds-rows-i
-offset-bounds-rows-i g c =
+pub offset_bounds-rows-i : goal.offset_bounds-rows-i
+offset_bounds-rows-i g c =
     let h : c.args.i * c.args.m + c.loop-j.j < length c.args.rows.now = omega (arith, digits_lt c.requires.inside c.loop-j-test.true, c.requires.table) in
     search rules
 

@@ -6,8 +6,8 @@ use Rattle.table.proofs.Steps.{added_more}
 use Rattle.alphabet.proofs.Symbols.{zero_in}
 use Rattle.table.proofs.words.check_symbol.Goals as goal
 
-pub offset-bounds-rows-i : goal.offset-bounds-rows-i
-offset-bounds-rows-i g c =
+pub offset_bounds-rows-i : goal.offset_bounds-rows-i
+offset_bounds-rows-i g c =
     let h : c.loop-i.i * c.args.m + c.args.j < length c.args.rows.now = omega (arith, digits_lt c.loop-i-test.true c.requires.inside, c.requires.table) in
     search rules
 

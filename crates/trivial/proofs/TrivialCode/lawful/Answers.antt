@@ -7,7 +7,7 @@ pub returns : goal.returns
 returns g c =
     let xs : List ℕ = c.args.cells.now in
     judges_passed c.size.ensures
-    c.in-ok-check-lawful.ensures.is c.in-ok-check-cells.ensures.is refl (
-      λ t. one_cell xs c.in-ok-check-lawful.ensures.passed.0 ∙ ap (λ x. x ∷ []) (eqb→eq (get_or xs 0 0) 0 t),
+    c.in_ok-check_lawful.ensures.is c.in_ok-check_cells.ensures.is refl (
+      λ t. one_cell xs c.in_ok-check_lawful.ensures.passed.0 ∙ ap (λ x. x ∷ []) (eqb→eq (get_or xs 0 0) 0 t),
       λ e. subst (λ (ys : List ℕ). T (eqb (get_or ys 0 0) 0)) (sym e) tt,
     )

@@ -5,5 +5,5 @@ use Rattle.trivial.proofs.TrivialCode.take_out.Goals as goal
 pub returns : goal.returns
 returns g c =
     takes_passed c.size.ensures
-    c.in-ok-check-take-out.ensures.is c.in-ok-check-cells.ensures.is
-    (nil_from_length c.args.answer.now c.in-ok-check-take-out.ensures.passed.1)
+    c.in_ok-check_take_out.ensures.is c.in_ok-check_cells.ensures.is
+    (nil_from_length c.args.answer.now c.in_ok-check_take_out.ensures.passed.1)

@@ -11,12 +11,12 @@ returns g c =
     let r : List ℕ = c.args.cells.now in
     let k : List ℕ = c.args.work.now in
     let n : ℕ = c.length-n.result in
-    let w : ℕ = c.working-cells-w.result in
-    let fit = c.in-ok-check-lawful.ensures.passed in
-    let is = c.in-ok-check-lawful.ensures.is in
+    let w : ℕ = c.working_cells-w.result in
+    let fit = c.in_ok-check_lawful.ensures.passed in
+    let is = c.in_ok-check_lawful.ensures.is in
     let limits = within_limits n w (length r) n 0 0 (length k) w is in
     let small : s.n ≤ 4096 = omega (arith, limits.0, c.length-n.ensures) in
-    let wide : w ≡ s.working = omega (arith, limits.1, room_of s w c.working-cells-w.ensures small) in
-    judges-sized (is ∙ gate_judge s n w (length r) (length k) c.length-n.ensures c.working-cells-w.ensures)
-    (wiped_part w s.working k c.judge-verdict.new.work c.zero-front.new.cells wide (c.judge-verdict.auto.work ∙ part_long w w k refl fit.1) fit.1 c.zero-front.ensures)
+    let wide : w ≡ s.working = omega (arith, limits.1, room_of s w c.working_cells-w.ensures small) in
+    judges-sized (is ∙ gate_judge s n w (length r) (length k) c.length-n.ensures c.working_cells-w.ensures)
+    (wiped_part w s.working k c.judge-verdict.new.work c.zero_front.new.cells wide (c.judge-verdict.auto.work ∙ part_long w w k refl fit.1) fit.1 c.zero_front.ensures)
     c.judge-verdict.ensures

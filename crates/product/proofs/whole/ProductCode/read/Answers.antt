@@ -12,12 +12,12 @@ returns g c =
     let t : List ℕ = c.args.answer.now in
     let k : List ℕ = c.args.work.now in
     let n : ℕ = c.length-n.result in
-    let w : ℕ = c.working-cells-working.result in
-    let fit = c.in-ok-check-read.ensures.passed in
-    let is = c.in-ok-check-read.ensures.is in
+    let w : ℕ = c.working_cells-working.result in
+    let fit = c.in_ok-check_read.ensures.passed in
+    let is = c.in_ok-check_read.ensures.is in
     let limits = within_limits n w (length r) n (length t) n (length k) w is in
     let small : s.n ≤ 4096 = omega (arith, limits.0, c.length-n.ensures) in
-    let wide : w ≡ s.working = omega (arith, limits.1, room_of s w c.working-cells-working.ensures small) in
-    reads_sized (is ∙ gate_answered s n w (length r) (length t) (length k) c.length-n.ensures c.working-cells-working.ensures)
-    (wiped_part w s.working k c.attempt-verdict.new.work c.zero-front.new.cells wide (c.attempt-verdict.auto.work ∙ part_long w w k refl fit.2) fit.2 c.zero-front.ensures)
+    let wide : w ≡ s.working = omega (arith, limits.1, room_of s w c.working_cells-working.ensures small) in
+    reads_sized (is ∙ gate_answered s n w (length r) (length t) (length k) c.length-n.ensures c.working_cells-working.ensures)
+    (wiped_part w s.working k c.attempt-verdict.new.work c.zero_front.new.cells wide (c.attempt-verdict.auto.work ∙ part_long w w k refl fit.2) fit.2 c.zero_front.ensures)
     c.attempt-verdict.ensures

@@ -14,5 +14,5 @@ returns g c =
     let l = laid b (g.A.Code.layout c.args.self.now.columns) (g.B.Code.layout c.args.self.now.rows) in
     record {
       answer = subst (λ (v : Verdict). takes (then v (clean (good Word a.q) c.args.word.now)) l c.args.word.now c.args.answer.now c.take.new.answer c.take.result)
-          c.in-ok-take-sizes.ensures.is c.take.ensures;
+          c.in_ok-take_sizes.ensures.is c.take.ensures;
     }

@@ -12,14 +12,14 @@ loop-i-preserved g c = (
   c.call.ensures.kept.1 ∙ c.loop-i.invariant.1,
   c.call.ensures.lender ∙ c.loop-i.invariant.2,
   one_step_more g.C.Code.codebook _ _ _ _ c.loop-i.invariant.0 c.loop-i.invariant.1 _ _ c.index-steps-i.result c.loop-i-test.true c.index-steps-i.is
-      c.args.outcomes.now _ (omega (arith, c.in-ok-check-outcomes.ensures.passed)) _ _ _ _ _ _ _ _ _ _ c.loop-i.invariant.3 c.call.ensures.cells c.call.ensures.history c.call.ensures.goes,
+      c.args.outcomes.now _ (omega (arith, c.in_ok-check_outcomes.ensures.passed)) _ _ _ _ _ _ _ _ _ _ c.loop-i.invariant.3 c.call.ensures.cells c.call.ensures.history c.call.ensures.goes,
 )
 
 pub returns : goal.returns
 returns g c =
     let i = c.loop-i.i in
     let all-steps = take_all i c.args.steps.now c.loop-i-test.false in
-    let all_Noted = take_all i c.loop-i.outcomes (omega (arith, c.in-ok-check-outcomes.ensures.passed, c.loop-i-test.false)) in
+    let all_Noted = take_all i c.loop-i.outcomes (omega (arith, c.in_ok-check_outcomes.ensures.passed, c.loop-i-test.false)) in
     record {
       is = search rules;
       ran = rw (all-steps, all_Noted) at c.loop-i.invariant.3;

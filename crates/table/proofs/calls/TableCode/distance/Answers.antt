@@ -5,15 +5,15 @@ use Rattle.table.specs.Tables.{Generator, generator, tables, tabulable}
 use Rattle.table.specs.Laws.{tables_apart}
 use Rattle.table.proofs.calls.TableCode.distance.Goals as goal
 
-pub returns-then-is-tabulable : goal.returns-then-is-tabulable
-returns-then-is-tabulable g c =
+pub returns-then-is_tabulable : goal.returns-then-is_tabulable
+returns-then-is_tabulable g c =
     let t = c.args.self.now in
     let s : Generator = generator g.S.Alphabet.size g.S.Alphabet.plus g.S.Alphabet.times t.k t.m t.rows in
-    let limits = c.if-is-tabulable.ensures.limits tt in
+    let limits = c.if-is_tabulable.ensures.limits tt in
     let short = (tables_apart s g.met.S.Alphabet.ring limits.0).short in
-    let small : c.least-weight.result ≤ 24 = omega (arith, c.least-weight.ensures.is, short, limits.1, limits.3) in
-    let own : c.least-weight.result ≡ answered (tables s).d = omega (arith, c.least-weight.ensures.is, small) in
+    let small : c.least_weight.result ≤ 24 = omega (arith, c.least_weight.ensures.is, short, limits.1, limits.3) in
+    let own : c.least_weight.result ≡ answered (tables s).d = omega (arith, c.least_weight.ensures.is, small) in
     record {
-      is = subst (λ (b : Bool). c.least-weight.result ≡ answered (limited b s.q (tables s)).d) c.if-is-tabulable.ensures.is own;
-      lightest = λ _. c.least-weight.ensures.lightest;
+      is = subst (λ (b : Bool). c.least_weight.result ≡ answered (limited b s.q (tables s)).d) c.if-is_tabulable.ensures.is own;
+      lightest = λ _. c.least_weight.ensures.lightest;
     }
