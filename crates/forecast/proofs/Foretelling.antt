@@ -1,17 +1,17 @@
 -- A word that costs less than the distance comes back from every read, and one at the distance from none. Assumes nothing.
-use Rattle.std.proofs.Common.{◌≡◌, ℕ, ◌<◌, ◌≤◌, cond, eqb, ltb, ◌≢◌, List, length, get_or, Ok, Err, Result, sym, refl, ap, ◌∙◌, subst, ap₂, inl, inr, arith}
+use Rattle.std.proofs.Common.{◌≡◌, ℕ, ◌<◌, ◌≤◌, eqb, ltb, List, length, get_or, Ok, Err, Result, sym, ap, ◌∙◌, subst, ap₂, inl, inr, arith}
 use Rattle.std.proofs.lemmas.Bool.{cases_eq, cases_lt, cond-true, cond-false, eq-eqb, ne_eqb, lt-ltb, le-ltb}
 use Rattle.code.specs.declared.cells.Counts.{Counts}
 use Rattle.code.specs.declared.refusals.Reason.TheVariants.{Lost}
 use Rattle.code.specs.declared.refusals.Refusal.{Refusal}
-use Rattle.code.specs.Cells.{wrongs, blanks, cost}
+use Rattle.code.specs.Cells.{wrongs, cost}
 use Rattle.code.specs.Codes.{Codebook, Layout, Apart, Carries, taken}
 use Rattle.code.specs.Refusals.{Verdict, refusal}
-use Rattle.code.specs.Calls.{Within, found, reads, read_checks, Reads}
+use Rattle.code.specs.Calls.{found, reads, read_checks, Reads}
 use Rattle.code.proofs.Costs.{at_reach}
 use Rattle.code.proofs.Rows.{equal_or_not, is_listed}
 use Rattle.forecast.specs.declared.Forecast.{Forecast}
-use Rattle.forecast.specs.declared.Forecast.TheVariants.{Returns, GetsLost, Uncertain}
+use Rattle.forecast.specs.declared.Forecast.TheVariants.{Returns, GetsLost}
 use Rattle.forecast.specs.Forecasts.{forecast, foreseen, Returned, Foretells}
 
 -- what stands at the message places of a word is the message that it carries

@@ -1,5 +1,6 @@
 // The forecast: what the cost of received cells against the printed word foretells of every read of them.
 #![tactic(auto)]
+
 ghost use Rattle.std.specs.Prelude.{◌≡◌, IfOk};
 ghost use Rattle.forecast.specs.Forecasts.{forecast, foreseen, Foretells};
 

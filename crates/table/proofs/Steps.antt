@@ -1,5 +1,5 @@
 -- What one turn of a loop over a table adds. Assumes nothing.
-use Rattle.std.proofs.Common.{◌≡◌, ℕ, zero, suc, ◌+◌, ◌*◌, ◌/◌, ◌%◌, ◌<◌, ◌≤◌, true, false, eqb, ◌≢◌, List, length, get_or, set, replicate, Ok, Err, sym, refl, ap, ◌∙◌, subst, ap₂, mod-eq_of_lt, add-one, arith, get_or-set_other, get_or-set_same, below_more}
+use Rattle.std.proofs.Common.{◌≡◌, ℕ, zero, suc, ◌+◌, ◌*◌, ◌%◌, ◌<◌, true, eqb, ◌≢◌, List, length, get_or, set, replicate, Ok, sym, refl, ap, ◌∙◌, subst, ap₂, mod-eq_of_lt, add-one, arith, get_or-set_other, get_or-set_same, below_more}
 use Rattle.std.proofs.lemmas.Bool.Decides.{nat_tests}
 use Rattle.code.specs.Cells.{good}
 use Rattle.code.specs.declared.cells.Content.TheVariants.{Word}

@@ -1,5 +1,5 @@
 -- A survey goes on by one word: the least weight so far, and the cheapest word so far. Assumes nothing.
-use Rattle.std.proofs.Common.{◌≡◌, ℕ, ◌+◌, ◌-◌, ◌*◌, ◌^◌, ◌<◌, ◌≤◌, min, cond, eqb, ◌≢◌, List, length, get_or, take, replicate, sym, refl, ap, ◌∙◌, subst, ap₂, inl, inr, arith, below_more}
+use Rattle.std.proofs.Common.{◌≡◌, ℕ, ◌+◌, ◌-◌, ◌*◌, ◌^◌, ◌<◌, ◌≤◌, min, cond, eqb, List, length, get_or, take, replicate, sym, refl, ap, ◌∙◌, subst, inl, inr, arith, below_more}
 use lib.ListN.{length-replicate, get_or-replicate}
 use Rattle.std.proofs.lemmas.List.{take-replicate}
 use Rattle.std.proofs.lemmas.Bool.{cases_eq}
@@ -7,13 +7,11 @@ use Rattle.std.proofs.lemmas.Bool.Decides.{nat_tests}
 use Rattle.alphabet.specs.Rings.{Ring}
 use Rattle.alphabet.specs.Sums.{sum}
 use Rattle.alphabet.proofs.Sums.{sum_same}
-use Rattle.alphabet.proofs.Symbols.{zero_in}
 use Rattle.code.specs.declared.cells.Counts.{Counts}
 use Rattle.code.specs.Cells.{wrong, wrongs, blanks, cost}
-use Rattle.table.specs.declared.listing.Survey.{Survey}
-use Rattle.table.specs.Tables.{Generator, Tabled, weight, number, spelled, lowest, least, tables, front}
-use Rattle.table.specs.Surveys.{Nearest, Surveyed}
-use Rattle.table.specs.Numbers.{number_same, number_nought, lowest_more, pow_some}
+use Rattle.table.specs.Tables.{Generator, Tabled, weight, number, spelled, lowest, least}
+use Rattle.table.specs.Surveys.{Surveyed}
+use Rattle.table.specs.Numbers.{number_same, number_nought, lowest_more}
 use Rattle.table.specs.Laws.{spelled-number, each_word, tables_linear}
 
 -- the words of the messages below t have been seen, and the running word is that of message t - 1

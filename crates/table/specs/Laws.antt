@@ -1,8 +1,7 @@
 -- The words of a table show the laws of a code. Assumes nothing.
-use Rattle.std.specs.Prelude.{◌≡◌, ℕ, zero, suc, ◌+◌, ◌-◌, ◌*◌, ◌%◌, ◌^◌, ◌<◌, ◌≤◌, cond, ◌≢◌, ◌⊎◌, List, length, replicate, ◌==◌, nat_lt, slice_index, slice_index_or, refl}
+use Rattle.std.specs.Prelude.{◌≡◌, ℕ, zero, suc, ◌+◌, ◌-◌, ◌*◌, ◌^◌, ◌<◌, ◌≤◌, cond, ◌≢◌, ◌⊎◌, List, length, ◌==◌, nat_lt, slice_index, slice_index_or}
 use Rattle.std.proofs.Common.{sym, ap₂, ◌∙◌, inl, inr, ⊎_elim, not-suc-le-zero, pow-suc, mul-le-mul_right}
 use Rattle.std.proofs.Math.Path.{ap, subst}
-use Rattle.std.proofs.Math.Nat.{pow-zero}
 use native.Mathlib.Omega.{arith}
 use Rattle.std.proofs.lemmas.List.{ext_get_or, length-replicate, get_or-replicate}
 use Rattle.std.proofs.lemmas.List.FromFn.{fill_by_all}
@@ -12,12 +11,11 @@ use Rattle.std.proofs.lemmas.Bool.Decides.{nat_tests}
 use Rattle.alphabet.specs.Sums.{sum}
 use Rattle.code.specs.Cells.{listed, differing}
 use Rattle.alphabet.specs.Rings.{Ring}
-use Rattle.code.specs.Codes.{Codebook, Layout, Apart, Linear, Message, Carries}
+use Rattle.code.specs.Codes.{Apart, Linear}
 use Rattle.alphabet.proofs.Sums.{sum_same, one_place}
 use Rattle.code.proofs.Rows.{length-listed, get_or-listed}
-use Rattle.alphabet.specs.Sums.{added}
-use Rattle.table.specs.Tables.{Generator, coefficient, check, Tabled, weight, Least, digit, letter, number, spelled, lowest, least, tables, front}
-use Rattle.table.specs.Numbers.{digit_of, number_below, number_positive, digit_low, number_same, number_nought, number_digits, pow_some, lowest_start, lowest_le, Reached, lowest_reached, lowest_positive}
+use Rattle.table.specs.Tables.{Generator, coefficient, check, Tabled, weight, Least, digit, letter, number, spelled, least, tables, front}
+use Rattle.table.specs.Numbers.{digit_of, number_below, number_positive, digit_low, number_same, number_nought, number_digits, pow_some, lowest_le, Reached, lowest_reached}
 use Rattle.alphabet.proofs.Symbols.{zero_in, cancel_right, mul-zero}
 use Rattle.alphabet.proofs.Additions.{added_same, added_closed, added_nought, added-add, added-mul}
 

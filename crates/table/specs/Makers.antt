@@ -1,5 +1,5 @@
 -- What the maker of a table code refuses, and what it makes. Assumes nothing.
-use Rattle.std.specs.Prelude.{◌≡◌, ℕ, ◌*◌, cond, List, length, Err, ◌==◌}
+use Rattle.std.specs.Prelude.{ℕ, ◌*◌, cond, List, length, Err, ◌==◌}
 use Rattle.code.specs.declared.cells.Content.TheVariants.{Word}
 use Rattle.code.specs.declared.refusals.Reason.TheVariants.{Unset, Misfit}
 use Rattle.code.specs.Cells.{good}

@@ -1,10 +1,9 @@
 -- The numbers of messages, and the least of some numbers. Assumes nothing.
-use Rattle.std.specs.Prelude.{◌≡◌, ℕ, zero, suc, ◌+◌, ◌-◌, ◌*◌, ◌/◌, ◌%◌, ◌^◌, ◌<◌, ◌≤◌, min, Bool, true, cond, ◌&&◌, T, leb, ◌≢◌, ◌⊎◌, nat_le, refl}
-use Rattle.std.proofs.Common.{sym, ap, ap₂, subst, ◌∙◌, inl, inr, ⊎_elim, suc-le-suc, zero-mul, one-mul, add-mul, mul_assoc, mul_comm, pow-suc, mul-le-mul, mul-le-mul_left, mul-le-mul_right, not-suc-le-zero, le_of_suc-le-suc, arith, add-one, leb→le}
+use Rattle.std.specs.Prelude.{◌≡◌, ℕ, zero, suc, ◌+◌, ◌-◌, ◌*◌, ◌/◌, ◌%◌, ◌^◌, ◌<◌, ◌≤◌, min, Bool, true, ◌&&◌, T, leb, ◌≢◌, ◌⊎◌, nat_le, refl}
+use Rattle.std.proofs.Common.{sym, ap, ap₂, ◌∙◌, inl, inr, ⊎_elim, suc-le-suc, zero-mul, one-mul, add-mul, mul_assoc, mul_comm, pow-suc, mul-le-mul, mul-le-mul_left, mul-le-mul_right, not-suc-le-zero, le_of_suc-le-suc, arith, add-one, leb→le}
 use Rattle.std.proofs.Math.Nat.{pow-zero}
 use Rattle.std.proofs.lemmas.Nat.{div-mul-add, mod-mul-add, mod_below, div_below, div-add-mod'}
 use Rattle.std.proofs.lemmas.Bool.{cases_eq, cases_lt, cond-true, cond-false, le-leb, lt-leb, leb-true, and_parts}
-use Rattle.std.proofs.lemmas.Bool.Decides.{nat_tests}
 use Rattle.table.specs.Tables.{over, digit, number, lowest, capped, tabulable}
 
 -- ---- digits

@@ -1,5 +1,6 @@
 // The table code: any short generator, for every alphabet.
 #![tactic(auto)]
+
 mod calls;
 mod listing;
 mod maker;

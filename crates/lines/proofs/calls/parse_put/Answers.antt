@@ -5,7 +5,7 @@ use Rattle.lines.proofs.calls.parse_put.Goals as goal
 
 pub returns-in_err-place : goal.returns-in_err-place
 returns-in_err-place c =
-    let p = err_from_is_err_and c.from-residual.result c.from-residual.ensures.1 in
+    let p = err_from_is_err_and c.from_residual.result c.from_residual.ensures.1 in
     rw (p.1, p.2) (put_break c.args.rest.now c.find_byte-end.result c.in_err-place.field-0.0 c.find_byte-end.ensures.first c.in_err-place.ensures)
 
 pub returns-in_err-symbol : goal.returns-in_err-symbol
@@ -14,7 +14,7 @@ returns-in_err-symbol c =
     let e : ℕ = c.find_byte-end.result in
     let S : List ℕ = take (length R - e) (drop e R) in
     let m : 1 ≤ length S = search rules in
-    let p = err_from_is_err_and c.from-residual-in_err-symbol.result c.from-residual-in_err-symbol.ensures.1 in
+    let p = err_from_is_err_and c.from_residual-in_err-symbol.result c.from_residual-in_err-symbol.ensures.1 in
     rw (p.1, p.2) (put_symbol R S e c.in_ok-place.place (Err c.in_err-symbol.field-0.0) c.find_byte-end.ensures.first c.in_ok-place.ensures refl m c.in_err-symbol.ensures)
 
 pub returns-in_ok-symbol : goal.returns-in_ok-symbol

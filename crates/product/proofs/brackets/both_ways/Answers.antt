@@ -1,4 +1,4 @@
-use Rattle.std.proofs.Common.{◌≡◌, subst}
+use Rattle.std.proofs.Common.{subst}
 use Rattle.algebra.specs.Grids.{grids}
 use Rattle.algebra.specs.Agreement.{Same}
 use Rattle.algebra.proofs.Agreement.{agree}

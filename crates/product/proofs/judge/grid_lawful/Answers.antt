@@ -1,5 +1,5 @@
-use Rattle.std.proofs.Common.{◌≡◌, ℕ, ◌*◌, ◌<◌, ◌≤◌, List, sym, refl, ap, ◌∙◌, subst, arith}
-use Rattle.algebra.specs.Grids.{row, column, Grid}
+use Rattle.std.proofs.Common.{◌≡◌, ℕ, ◌*◌, ◌<◌, ◌≤◌, List, sym, ◌∙◌, subst, arith}
+use Rattle.algebra.specs.Grids.{row, column}
 use Rattle.algebra.specs.Parts.{Symbols}
 use Rattle.algebra.proofs.Places.{side1, side2}
 use Rattle.algebra.proofs.Wholes.{moved}

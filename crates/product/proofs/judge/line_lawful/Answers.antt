@@ -1,4 +1,4 @@
-use Rattle.std.proofs.Common.{◌≡◌, Ok, Err, refl}
+use Rattle.std.proofs.Common.{Ok, Err}
 use Rattle.algebra.proofs.Lines.{judge_passes}
 use Rattle.product.proofs.judge.line_lawful.Goals as goal
 

@@ -1,4 +1,4 @@
-use Rattle.std.proofs.Common.{◌≡◌, ℕ, ◌+◌, ◌*◌, ◌<◌, ◌≤◌, ◌≢◌, IfSome, Some, None, Option, sym, ◌∙◌, subst, arith}
+use Rattle.std.proofs.Common.{ℕ, ◌*◌, ◌<◌, ◌≤◌, IfSome, Option, sym, ◌∙◌, subst, arith}
 use Rattle.algebra.proofs.Places.{side1, side2}
 use Rattle.algebra.proofs.Combining.{absent_up, present_along, present, place_below}
 use Rattle.product.proofs.pick.combine_places.Goals as goal
@@ -21,7 +21,7 @@ returns-in_err-up g c =
     let q = g.met.B.Code.apart c.args.rows.now in
     let tall : a.n ≤ 4096 = side1 _ b.n _ (omega (arith, q.positive, q.short)) c.requires in
     let wide : b.n ≤ 4096 = side2 a.n _ _ (omega (arith, p.positive, p.short)) c.requires in
-    let none = c.from-residual.ensures in
+    let none = c.from_residual.ensures in
     record {
       is = none ∙ absent_up a b (g.A.Code.layout c.args.columns.now) (g.B.Code.layout c.args.rows.now) c.args.i c.message_length_of-k2.result c.length_of-n2.result
           c.message_length_of-k2.ensures.0 c.length_of-n2.ensures c.if-k2-eq0.false tall wide c.in_err-up.ensures;

@@ -1,4 +1,4 @@
-use Rattle.std.proofs.Common.{◌≡◌, ℕ, false, Ok, sym, refl, ◌∙◌, subst}
+use Rattle.std.proofs.Common.{◌≡◌, ℕ, Ok, sym, refl, ◌∙◌, subst}
 use Rattle.code.specs.declared.cells.Content.TheVariants.{Word}
 use Rattle.code.specs.Cells.{good}
 use Rattle.algebra.specs.Grids.{laid}

@@ -1,4 +1,4 @@
-use Rattle.std.proofs.Common.{◌≡◌, ℕ, ◌*◌, ◌≤◌, length, sym, refl, ◌∙◌, mul-le-mul}
+use Rattle.std.proofs.Common.{◌*◌, ◌≤◌, length, ◌∙◌, mul-le-mul}
 use Rattle.algebra.specs.Grids.{grids}
 use Rattle.algebra.proofs.Sizes.{gate_take, sized_tells, limits_told, both_made}
 use Rattle.product.proofs.pick.take_sizes.Goals as goal

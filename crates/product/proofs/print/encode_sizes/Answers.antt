@@ -1,4 +1,4 @@
-use Rattle.std.proofs.Common.{◌≡◌, ℕ, ◌*◌, ◌≤◌, length, sym, refl, ◌∙◌, mul-le-mul, arith}
+use Rattle.std.proofs.Common.{◌≡◌, ◌*◌, ◌≤◌, length, ◌∙◌, mul-le-mul, arith}
 use Rattle.algebra.specs.Grids.{grids}
 use Rattle.algebra.proofs.Sizes.{gate_encode, answered_wide, sized_tells, limits_told, both_made}
 use Rattle.product.proofs.print.encode_sizes.Goals as goal

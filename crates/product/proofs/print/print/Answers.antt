@@ -1,6 +1,6 @@
-use Rattle.std.proofs.Common.{◌≡◌, ℕ, ◌≤◌, false, Ok, sym, refl, ◌∙◌, subst, arith}
+use Rattle.std.proofs.Common.{◌≡◌, ℕ, Ok, sym, refl, ◌∙◌, subst, arith}
 use Rattle.code.specs.declared.cells.Content.TheVariants.{Word}
-use Rattle.code.specs.Cells.{good, blank}
+use Rattle.code.specs.Cells.{good}
 use Rattle.algebra.specs.Grids.{grids, laid}
 use Rattle.code.specs.Refusals.{clean}
 use Rattle.code.specs.Calls.{encodes}

@@ -1,6 +1,6 @@
-use Rattle.std.proofs.Common.{◌≡◌, ℕ, ◌≤◌, true, List, Ok, sym, refl, ap, ◌∙◌, subst, arith}
+use Rattle.std.proofs.Common.{◌≡◌, ℕ, Ok, sym, ◌∙◌, subst, arith}
 use Rattle.code.specs.declared.cells.Content.TheVariants.{Received}
-use Rattle.code.specs.Cells.{good, blank}
+use Rattle.code.specs.Cells.{good}
 use Rattle.algebra.specs.Grids.{grids}
 use Rattle.code.specs.Refusals.{clean}
 use Rattle.code.specs.Calls.{reads}

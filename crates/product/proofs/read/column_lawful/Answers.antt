@@ -1,4 +1,4 @@
-use Rattle.std.proofs.Common.{◌≡◌, ℕ, List, length, Ok, Err, sym, refl, ◌∙◌, subst, arith}
+use Rattle.std.proofs.Common.{ℕ, List, length, Ok, Err, refl, subst}
 use Rattle.algebra.specs.Parts.{Says}
 use Rattle.algebra.proofs.Lines.{judge_passes, ready_at, column_symbols}
 use Rattle.product.proofs.read.column_lawful.Goals as goal

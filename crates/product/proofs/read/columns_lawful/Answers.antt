@@ -1,4 +1,4 @@
-use Rattle.std.proofs.Common.{◌≡◌, ℕ, ◌-◌, List, length, take, sym, refl, ◌∙◌, subst, arith}
+use Rattle.std.proofs.Common.{◌≡◌, ℕ, ◌-◌, length, take, sym, refl, subst, arith}
 use Rattle.algebra.specs.Grids.{column}
 use Rattle.algebra.proofs.Places.{part_long}
 use Rattle.product.proofs.read.columns_lawful.Goals as goal

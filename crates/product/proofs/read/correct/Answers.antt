@@ -1,5 +1,4 @@
-use Rattle.std.proofs.Common.{◌≡◌, ℕ, ◌*◌, ◌<◌, ◌≤◌, max, true, false, List, length, sym, refl, ap, ◌∙◌, subst, arith}
-use Rattle.code.specs.Cells.{cost}
+use Rattle.std.proofs.Common.{◌≡◌, ℕ, ◌*◌, ◌<◌, true, false, List, length, sym, refl, ◌∙◌, subst, arith}
 use Rattle.algebra.specs.Grids.{row, column, grids}
 use Rattle.code.specs.Calls.{Within}
 use Rattle.algebra.specs.Parts.{Weighed, RowsDecoded}

@@ -1,4 +1,4 @@
-use Rattle.std.proofs.Common.{◌≡◌, ℕ, ◌+◌, false, List, length, sym, refl, ◌∙◌, subst, arith, below_more}
+use Rattle.std.proofs.Common.{ℕ, ◌+◌, false, List, subst, arith, below_more}
 use Rattle.algebra.specs.Parts.{HeavyAt, Renewed}
 use Rattle.algebra.proofs.Lines.{decoded_none}
 use Rattle.product.proofs.read.decode_row.Goals as goal

@@ -1,4 +1,4 @@
-use Rattle.std.proofs.Common.{◌≡◌, ℕ, ◌*◌, ◌≤◌, get_or}
+use Rattle.std.proofs.Common.{◌≡◌, ◌*◌, ◌≤◌, get_or}
 use Rattle.algebra.specs.Weights.{heft}
 use Rattle.product.proofs.read.row_weight.Given as goal
 

@@ -1,4 +1,4 @@
-use Rattle.std.proofs.Common.{ℕ, ◌*◌, ◌≤◌, arith}
+use Rattle.std.proofs.Common.{◌≤◌, arith}
 use Rattle.algebra.proofs.Places.{side1, side2}
 use Rattle.product.proofs.read.solve.Goals as goal
 

@@ -1,4 +1,4 @@
-use Rattle.std.proofs.Common.{◌≡◌, ℕ, ◌≤◌, List, Ok, Err, sym, refl, ap, ◌∙◌, subst, arith}
+use Rattle.std.proofs.Common.{ℕ, ◌≤◌, List, Ok, Err, sym, refl, subst, arith}
 use Rattle.code.specs.Cells.{cost}
 use Rattle.code.specs.Refusals.{Verdict}
 use Rattle.code.specs.Calls.{Within, reads}

@@ -1,4 +1,4 @@
-use Rattle.std.proofs.Common.{◌≡◌, ℕ, ◌+◌, ◌∙◌, arith}
+use Rattle.std.proofs.Common.{◌+◌, ◌∙◌, arith}
 use Rattle.code.proofs.Checks.{reads_sized}
 use Rattle.code.proofs.Rows.{zeroed-over}
 use Rattle.table.proofs.calls.read_table.Goals as goal

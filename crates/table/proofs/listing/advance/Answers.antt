@@ -1,4 +1,4 @@
-use Rattle.std.proofs.Common.{◌≡◌, ℕ, ◌+◌, ◌^◌, ◌<◌, List, get_or, arith}
+use Rattle.std.proofs.Common.{◌≡◌, ℕ, ◌+◌, ◌<◌, get_or, arith}
 use native.Mathlib.Nat.{pow-zero}
 use Rattle.table.specs.Numbers.{number_next, number_wrap}
 use Rattle.table.proofs.listing.advance.Goals as goal

@@ -1,4 +1,3 @@
-use Rattle.std.proofs.Common.{◌≡◌, length}
 use Rattle.table.specs.Tables.{generator}
 use Rattle.table.proofs.Changes.{Changing}
 use Rattle.table.proofs.listing.change_symbol.Given as goal

@@ -1,8 +1,8 @@
-use Rattle.std.proofs.Common.{◌≡◌, ℕ, ◌+◌, ◌^◌, ◌<◌, ◌≤◌, List, length, get_or, replicate, ap, ◌∙◌, arith}
+use Rattle.std.proofs.Common.{◌≡◌, ℕ, ◌+◌, ◌^◌, ◌<◌, ◌≤◌, List, get_or, replicate, ap, ◌∙◌, arith}
 use Rattle.code.specs.declared.cells.Counts.{Counts}
 use Rattle.table.specs.Tables.{Generator, generator, weight, number}
 use Rattle.table.specs.Numbers.{capped_is, pow_some}
-use Rattle.table.proofs.Surveying.{Sofar, begun, renamed, nearer, kept, surveyed, weight_counted}
+use Rattle.table.proofs.Surveying.{begun, renamed, nearer, kept, surveyed, weight_counted}
 use Rattle.table.proofs.listing.survey_words.Goals as goal
 use Rattle.table.proofs.listing.survey_words.Goals.{then-tried-counts, else-tried-counts}
 

@@ -1,4 +1,4 @@
-use Rattle.std.proofs.Common.{◌≡◌, ℕ, ◌+◌, ◌*◌, ◌%◌, ◌<◌, length, get_or, sym, refl, ap, ◌∙◌, subst, arith, rules}
+use Rattle.std.proofs.Common.{◌+◌, ◌*◌, ◌<◌, length, get_or, refl, arith, rules}
 use lib.Arith.{digits_lt}
 use Rattle.std.proofs.lemmas.Nat.{mod_below}
 use Rattle.table.specs.Tables.{generator, coefficient}

@@ -1,4 +1,4 @@
-use Rattle.std.proofs.Common.{◌≡◌, ℕ, ◌<◌, get_or}
+use Rattle.std.proofs.Common.{◌≡◌, ◌<◌, get_or}
 use Rattle.alphabet.specs.Sums.{added}
 use Rattle.table.specs.Tables.{generator, coefficient}
 use Rattle.table.proofs.words.check_symbol.Given as goal

@@ -1,4 +1,4 @@
-use Rattle.std.proofs.Common.{◌≡◌, ℕ, ◌^◌, ◌≤◌, leb, sym, ap, ◌∙◌, arith}
+use Rattle.std.proofs.Common.{ℕ, ◌^◌, ◌≤◌, leb, ◌∙◌, arith}
 use Rattle.table.specs.Numbers.{capped_fits, capped_leb, limits_leb, small_table}
 use Rattle.table.proofs.words.is_tabulable.Goals as goal
 

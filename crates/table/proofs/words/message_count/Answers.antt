@@ -1,4 +1,4 @@
-use Rattle.std.proofs.Common.{◌≡◌, ℕ, ◌+◌, ◌*◌, ◌^◌, ◌<◌, ◌≤◌, sym, ◌∙◌, arith, lit≤}
+use Rattle.std.proofs.Common.{◌≡◌, ℕ, ◌+◌, ◌*◌, ◌^◌, ◌≤◌, sym, arith, lit≤}
 use native.Mathlib.Nat.{pow-zero}
 use Rattle.table.specs.Numbers.{pow_more, pow_up, capped_past}
 use Rattle.table.proofs.words.message_count.Goals as goal

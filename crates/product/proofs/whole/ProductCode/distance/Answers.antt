@@ -1,4 +1,4 @@
-use Rattle.std.proofs.Common.{◌≡◌, ℕ, ◌*◌, min, ap, ◌∙◌, arith}
+use Rattle.std.proofs.Common.{arith}
 use Rattle.algebra.proofs.Places.{cap_mul_any}
 use Rattle.product.proofs.whole.ProductCode.distance.Goals as goal
 

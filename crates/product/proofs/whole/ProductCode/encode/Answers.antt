@@ -1,5 +1,5 @@
-use Rattle.std.proofs.Common.{◌≡◌, ℕ, List, refl, ◌∙◌}
-use Rattle.algebra.specs.Grids.{grids, laid}
+use Rattle.std.proofs.Common.{ℕ, List, refl, ◌∙◌}
+use Rattle.algebra.specs.Grids.{grids}
 use Rattle.code.proofs.Checks.{encodes-sized}
 use Rattle.algebra.proofs.Places.{wiped_part, part_long}
 use Rattle.product.proofs.whole.ProductCode.encode.Goals as goal

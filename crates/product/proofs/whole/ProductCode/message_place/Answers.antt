@@ -1,4 +1,4 @@
-use Rattle.std.proofs.Common.{◌*◌, None, ◌∙◌, arith}
+use Rattle.std.proofs.Common.{◌*◌, None, arith}
 use Rattle.std.proofs.lemmas.Bool.{cond_above, cond_below}
 use Rattle.product.proofs.whole.ProductCode.message_place.Goals as goal
 

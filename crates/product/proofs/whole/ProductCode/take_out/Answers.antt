@@ -1,7 +1,7 @@
-use Rattle.std.proofs.Common.{◌≡◌, ℕ, false, sym, refl, ◌∙◌, subst}
+use Rattle.std.proofs.Common.{subst}
 use Rattle.code.specs.declared.cells.Content.TheVariants.{Word}
 use Rattle.code.specs.Cells.{good}
-use Rattle.algebra.specs.Grids.{grids, laid}
+use Rattle.algebra.specs.Grids.{laid}
 use Rattle.code.specs.Refusals.{clean, then}
 use Rattle.code.specs.Calls.{takes}
 use Rattle.code.specs.Refusals.{Verdict}

@@ -1,4 +1,4 @@
-use Rattle.std.proofs.Common.{◌≡◌, ℕ, ◌+◌, ◌*◌, ◌≤◌, min, max, sym, refl, ap, ◌∙◌, arith}
+use Rattle.std.proofs.Common.{◌≡◌, ◌+◌, ◌*◌, ◌≤◌, min, max, arith}
 use Rattle.std.proofs.lemmas.Bool.{cond_above}
 use Rattle.algebra.specs.Grids.{grids}
 use Rattle.algebra.proofs.Places.{side1, side2}

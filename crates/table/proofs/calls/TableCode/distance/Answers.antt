@@ -1,7 +1,7 @@
-use Rattle.std.proofs.Common.{◌≡◌, ℕ, ◌≤◌, Bool, true, sym, ap, ◌∙◌, subst, arith}
+use Rattle.std.proofs.Common.{◌≡◌, ◌≤◌, Bool, subst, arith}
 use Rattle.code.specs.Calls.{answered}
 use Rattle.trivial.specs.Limits.{limited}
-use Rattle.table.specs.Tables.{Generator, generator, tables, tabulable}
+use Rattle.table.specs.Tables.{Generator, generator, tables}
 use Rattle.table.specs.Laws.{tables_apart}
 use Rattle.table.proofs.calls.TableCode.distance.Goals as goal
 
