@@ -1,15 +1,14 @@
 -- How a line falls into fields, and what is asked of its first fields is asked of the line. Assumes nothing.
-use Rattle.std.proofs.Common.{◌≡◌, ℕ, suc, ◌+◌, ◌-◌, ◌<◌, ◌≤◌, Bool, true, false, cond, ◌&&◌, ◌||◌, eqb, leb, ◌⊎◌, List, [], ◌∷◌, ◌++◌, length, get_or, take, drop, Some, None, Ok, Err, Option, Result, sym, refl, ap, ◌∙◌, subst, inl, inr, ⊎_elim, arith, length-drop, take-append-drop}
-use Rattle.std.specs.Str.Parse.{AllDigits, digits_value}
-use Rattle.std.specs.Int.{IsInRange}
+use Rattle.std.proofs.Common.{◌≡◌, ℕ, suc, ◌+◌, ◌-◌, ◌<◌, ◌≤◌, Bool, true, false, cond, eqb, leb, ◌⊎◌, List, [], ◌∷◌, length, get_or, take, drop, Ok, Err, Result, sym, refl, ap, ◌∙◌, subst, ⊎_elim, arith, length-drop}
+use Rattle.std.specs.Str.Parse.{digits_value}
 use Rattle.std.proofs.lemmas.Bool.Decides.{nat_tests, eqb_tells}
 use Rattle.std.specs.Str.{all_ascii_digits}
 use Rattle.std.proofs.lemmas.Str.Parse.{IsNumeralModel, numerals_by_value, tells_all_ascii_digits}
-use Rattle.lines.proofs.Numerals.{numeral_long, numeral_led, numeral-digit, numeral_value, numeral_read, numeral_digits}
+use Rattle.lines.proofs.Numerals.{numeral_long, numeral_led, numeral_value, numeral_read, numeral_digits}
 use Rattle.std.proofs.lemmas.List.{take_rest, drop_all, get_or-drop}
 use Rattle.std.proofs.lemmas.Bool.{cases_lt}
-use Rattle.sheet.specs.declared.calls.Call.TheVariants.{Put, Blot, Wipe, Read}
-use Rattle.lines.specs.Fields.{onto, fields, till, garbled, numeral, number_at, ended, and_then, Numbered, Numeral}
+use Rattle.sheet.specs.declared.calls.Call.TheVariants.{Put, Wipe, Read}
+use Rattle.lines.specs.Fields.{onto, fields, till, garbled, numeral, number_at, ended, and_then, Numeral}
 use Rattle.lines.specs.Calls.{last_number, put_asked, wanted, commanded, asked}
 use Rattle.sheet.specs.declared.calls.Call.{Call}
 use Rattle.code.specs.declared.refusals.Refusal.{Refusal}

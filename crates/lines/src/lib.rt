@@ -1,5 +1,6 @@
 // Job lines: what a line of text asks for, or the field under which it is garbled.
 #![tactic(auto)]
+
 mod calls;
 mod cuts;
 mod names;

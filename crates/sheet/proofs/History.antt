@@ -1,5 +1,5 @@
 -- One call more: where the sheet's cells are the marks standing after the calls h, they are those standing after h and the call. Assumes nothing.
-use Rattle.std.proofs.Common.{◌≡◌, ℕ, ◌<◌, ◌≤◌, Bool, true, false, cond, ltb, ◌≢◌, List, [], ◌∷◌, ◌++◌, length, get_or, take, drop, set, replicate, is_ok, sym, refl, ap, ◌∙◌, subst, inl, inr, append_assoc, arith, length-set, get_or-set_other, get_or-set_same, take_at}
+use Rattle.std.proofs.Common.{◌≡◌, ℕ, ◌<◌, ◌≤◌, Bool, true, false, cond, ◌≢◌, List, [], ◌∷◌, ◌++◌, length, get_or, take, drop, set, replicate, is_ok, sym, refl, ap, ◌∙◌, subst, inl, inr, append_assoc, arith, length-set, get_or-set_other, get_or-set_same, take_at}
 use lib.ListN.{length-replicate, get_or-replicate}
 use lib.Seq.{take-set-lt}
 use Rattle.std.proofs.lemmas.Bool.{cases_eq, cases_lt}

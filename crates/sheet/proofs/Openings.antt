@@ -1,5 +1,5 @@
 -- What an accepted opening says of the sizes. Assumes nothing.
-use Rattle.std.proofs.Common.{◌≡◌, ℕ, is_ok, Ok, Err, arith}
+use Rattle.std.proofs.Common.{◌≡◌, ℕ, Ok, arith}
 use Rattle.std.proofs.lemmas.Bool.Decides.{nat_tests}
 use Rattle.sheet.specs.Runs.{opening, opened}
 

@@ -5,7 +5,7 @@ use Rattle.std.proofs.lemmas.Bool.Decides.{nat_tests}
 use Rattle.code.specs.Cells.{blank}
 use Rattle.sheet.specs.declared.calls.Call.{Call}
 use Rattle.sheet.specs.declared.calls.Call.TheVariants.{Put, Blot, Wipe, Read}
-use Rattle.sheet.specs.Marks.{Writes, Spares, Quiet, Stands, Stands.written, Stands.wiped, Stands.unmarked, Marks, OneRowStands}
+use Rattle.sheet.specs.Marks.{Writes, Spares, Quiet, Stands, Stands.written, Stands.wiped, Stands.unmarked, OneRowStands}
 
 -- what stands at p after one call, where v stood before
 step : (q n p v : ℕ) → Call → ℕ

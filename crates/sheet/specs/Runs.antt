@@ -1,5 +1,5 @@
 -- What each call of a sheet answers and leaves, and what a whole run of calls does. Assumes nothing.
-use Rattle.std.specs.Prelude.{◌≡◌, ℕ, cond, ◌||◌, List, [], ◌∷◌, ◌++◌, length, take, drop, replicate, is_ok, Some, None, Ok, Err, Option, Result, ◌==◌, nat_lt, slice_set}
+use Rattle.std.specs.Prelude.{◌≡◌, ℕ, cond, ◌||◌, List, [], ◌∷◌, ◌++◌, take, drop, replicate, is_ok, Some, None, Ok, Err, Option, Result, ◌==◌, nat_lt, slice_set}
 use Rattle.code.specs.declared.cells.Counts.{Counts}
 use Rattle.code.specs.declared.refusals.Reason.TheVariants.{Oversize, Misfit, WrongTray, Smudge, OffSheet}
 use Rattle.code.specs.declared.refusals.Refusal.{Refusal}

@@ -1,5 +1,6 @@
 // Sheets: cells that are written, blotted out and read again for as long as anybody likes, each read judging exactly the marks then standing.
 #![tactic(auto)]
+
 mod calls;
 mod faults;
 mod marks;

@@ -1,4 +1,4 @@
-use Rattle.std.proofs.Common.{◌≡◌, ℕ, ◌-◌, ◌≤◌, List, [], length, get_or, take, drop, sym, refl, ap, ◌∙◌, arith, rules}
+use Rattle.std.proofs.Common.{◌≡◌, ℕ, ◌-◌, ◌≤◌, List, [], length, get_or, take, drop, ap, ◌∙◌, rules}
 use Rattle.lines.specs.Fields.{fields}
 use Rattle.lines.specs.Calls.{commanded}
 use Rattle.lines.proofs.Cutting.{asked_long, asked_short, asked_other}

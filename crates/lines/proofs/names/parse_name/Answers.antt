@@ -1,4 +1,4 @@
-use Rattle.std.proofs.Common.{◌≡◌, ℕ, ◌-◌, ◌≤◌, Bool, true, false, List, [], length, get_or, take, drop, codes, sym, refl, ap, ◌∙◌, arith, rules}
+use Rattle.std.proofs.Common.{◌≡◌, ℕ, ◌-◌, ◌≤◌, true, false, List, length, get_or, take, drop, codes, refl, rules}
 use Rattle.std.specs.Str.{bytes_eq}
 use Rattle.lines.proofs.Naming.{code_wrong, code_right, code_alone}
 use Rattle.lines.proofs.names.parse_name.Goals as goal

@@ -1,4 +1,4 @@
-use Rattle.std.proofs.Common.{◌≡◌, sym, refl, ap, ◌∙◌, append-nil, arith, rules}
+use Rattle.std.proofs.Common.{refl, ◌∙◌, append-nil, arith, rules}
 use Rattle.std.proofs.lemmas.List.{take_all}
 use Rattle.sheet.proofs.Working.{one_step_more}
 use Rattle.sheet.proofs.marks.Sheet.run.Goals as goal
