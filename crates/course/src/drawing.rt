@@ -1,17 +1,16 @@
 // Plates drawn as grids, and verdicts put into words.
 use code::{BLANK, Counts, Refusal};
 use forecast::Forecast;
-use sheet::Call;
 use std::io;
 
 // Where a line of cells begins: beside its label, or under the line before.
 fn show_margin(rt: &HostRuntime, label: &str, at: usize, width: usize) -> io::Result<()> {
     if at == 0 {
-        return print!(rt, "  {label:<9}");
+        return print!(rt; "  {label:<9}");
     }
     if width > 0 && at % width == 0 {
         println!(rt; "")?;
-        return print!(rt, "           ");
+        return print!(rt; "           ");
     }
     Ok(())
 }
@@ -19,13 +18,13 @@ fn show_margin(rt: &HostRuntime, label: &str, at: usize, width: usize) -> io::Re
 // A cell with a mark before it where it is wrong.
 fn show_cell(rt: &HostRuntime, cell: u16, wrong: bool) -> io::Result<()> {
     if cell == BLANK {
-        print!(rt, "   _")
+        print!(rt; "   _")
     } else if !wrong {
-        print!(rt, "{cell:>4}")
+        print!(rt; "{cell:>4}")
     } else if cell < 10 {
-        print!(rt, "  !{cell}")
+        print!(rt; "  !{cell}")
     } else {
-        print!(rt, " !{cell}")
+        print!(rt; " !{cell}")
     }
 }
 
@@ -66,8 +65,7 @@ pub(crate) fn show_forecast(
     forecast: Forecast,
 ) -> io::Result<()> {
     let cost = counts.wrong.saturating_mul(2).saturating_add(counts.blank);
-    print!(
-        rt,
+    print!(rt;
         "  {} wrong and {} blank cost {cost}, and d is {d}: ",
         counts.wrong, counts.blank
     )?;
@@ -87,26 +85,5 @@ pub(crate) fn show_refusal(rt: &HostRuntime, refusal: Refusal) -> io::Result<()>
         "  refused: {} {}",
         refusal.reason.number(),
         refusal.reason.word()
-    )
-}
-
-pub(crate) fn show_call(rt: &HostRuntime, call: Call) -> io::Result<()> {
-    match call {
-        Call::Put { place, symbol } => println!(rt; "  put {symbol} at {place}"),
-        Call::Blot { place } => println!(rt; "  blot {place}"),
-        Call::Wipe => println!(rt; "  wipe"),
-        Call::Read => println!(rt; "  read"),
-    }
-}
-
-// A refusal with the layer that gave it and its place.
-pub(crate) fn show_fault(rt: &HostRuntime, fault: sheet::Fault) -> io::Result<()> {
-    let refusal = fault.refusal();
-    println!(rt;
-        "  refused by the {}: {} {}, place {}",
-        fault.layer(),
-        refusal.reason.number(),
-        refusal.reason.word(),
-        refusal.place
     )
 }

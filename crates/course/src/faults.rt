@@ -3,10 +3,9 @@ use code::Refusal;
 use std::alloc::AllocError;
 use std::io;
 
-#[derive(Drop)]
+#[derive(Debug, Drop)]
 pub enum Fault {
     Refused(Refusal),
-    Sheet(sheet::Fault),
     Memory(AllocError),
     Output(io::Error),
 }
@@ -14,12 +13,6 @@ pub enum Fault {
 impl From<Refusal> for Fault {
     fn from(refusal: Refusal) -> Fault {
         Fault::Refused(refusal)
-    }
-}
-
-impl From<sheet::Fault> for Fault {
-    fn from(fault: sheet::Fault) -> Fault {
-        Fault::Sheet(fault)
     }
 }
 

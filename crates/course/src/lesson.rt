@@ -55,7 +55,7 @@ fn show_plate<C: Code>(
     Ok(())
 }
 
-pub(crate) fn show_word<C: Code>(
+fn show_word<C: Code>(
     rt: &HostRuntime,
     code: &C,
     word: &[u16],

@@ -1,19 +1,17 @@
 // The course: messages are printed as rows and plates, spoiled and read again, and each step is shown.
 #![tactic(auto)]
+
 use alphabet::{Bits, Digits, Sixteen};
 use faults::Fault;
 use lesson::{blank, exercise, exercise_both_ways, wrong};
 use product::Product;
 use repetition::Repetition;
-use scans::{blot, exercise_other_code, exercise_scans, put};
-use sheet::Call;
 use sum::Sum;
 use table::Table;
 
 mod drawing;
 mod faults;
 mod lesson;
-mod scans;
 
 fn repetition_rows(rt: &HostRuntime) -> Result<(), Fault> {
     let five = Repetition::<Digits>::new(5)?;
@@ -134,82 +132,6 @@ fn plates_of_plates(rt: &HostRuntime) -> Result<(), Fault> {
     exercise_both_ways(rt, title, &left, &right, 2, &[9, 13], &many)
 }
 
-fn scanned_plates(rt: &HostRuntime) -> Result<(), Fault> {
-    let fare = Product::new(Repetition::<Digits>::new(3)?, Sum::new(4)?);
-    let title = "Columns repetition 3, rows sum 4, over Digits";
-    let first = [
-        put(0, 9),
-        put(1, 2),
-        put(2, 3),
-        put(3, 4),
-        put(4, 9),
-        put(5, 2),
-        put(12, 1),
-        put(7, 4),
-        put(8, 1),
-        put(9, 2),
-        put(10, 10),
-        put(10, 3),
-        put(11, 4),
-        Call::Read,
-        blot(0),
-        put(4, 1),
-        Call::Read,
-        put(0, 8),
-        put(4, 9),
-        put(8, 7),
-        Call::Read,
-    ];
-    exercise_scans(rt, title, &fare, 4, &first)?;
-    let second = [
-        put(0, 1),
-        put(5, 2),
-        Call::Wipe,
-        Call::Read,
-        blot(12),
-        put(0, 5),
-        put(1, 2),
-        put(2, 3),
-        put(3, 4),
-        put(4, 1),
-        put(5, 2),
-        put(6, 3),
-        put(0, 1),
-        Call::Read,
-        blot(6),
-        Call::Read,
-        put(6, 3),
-        put(11, 9),
-        Call::Read,
-    ];
-    exercise_scans(rt, title, &fare, 4, &second)
-}
-
-fn other_codes(rt: &HostRuntime) -> Result<(), Fault> {
-    let sum = Sum::<Digits>::new(4)?;
-    exercise_other_code(
-        rt,
-        "A sheet for sum 4 over Digits, read by repetition 4",
-        &sum,
-        &[4, 4, 7, 4],
-        &Repetition::<Digits>::new(4)?,
-    )?;
-    exercise_other_code(
-        rt,
-        "A sheet for sum 4 over Digits, read by sum 3",
-        &sum,
-        &[4, 4, 7, 4],
-        &Sum::<Digits>::new(3)?,
-    )?;
-    exercise_other_code(
-        rt,
-        "A sheet for sum 4 over Digits, read by sum 4 over Bits",
-        &sum,
-        &[1, 0, 7, 1],
-        &Sum::<Bits>::new(4)?,
-    )
-}
-
 fn main(rt: HostRuntime) -> Result<(), Fault> {
     println!(rt; "Exercise one: a spoiled row comes back, or is lost.")?;
     println!(rt; "")?;
@@ -222,9 +144,5 @@ fn main(rt: HostRuntime) -> Result<(), Fault> {
     bit_plates(&rt)?;
     println!(rt; "Exercise two: plates built of plates, in both bracketings.")?;
     println!(rt; "")?;
-    plates_of_plates(&rt)?;
-    println!(rt; "Exercise three: several scans on one sheet.")?;
-    println!(rt; "")?;
-    scanned_plates(&rt)?;
-    other_codes(&rt)
+    plates_of_plates(&rt)
 }

@@ -1,5 +1,6 @@
 // Trials of the alphabets, the codes and the sheets: worked examples, and every edge of sizes, cells and numbers, as tables of calls.
 #![tactic(auto)]
+
 #[cfg(test)]
 mod calls;
 #[cfg(test)]
