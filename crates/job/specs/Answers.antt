@@ -4,17 +4,17 @@ use Rattle.std.specs.List.{flat_map}
 use Rattle.code.specs.declared.cells.Counts.{Counts}
 use Rattle.code.specs.declared.refusals.Refusal.{Refusal}
 use Rattle.code.specs.Refusals.{number}
-use Rattle.sheet.specs.Faults.{layer as sheet-layer, refused as sheet-refused}
+use Rattle.sheet.specs.Faults.{layer as sheet_layer, refused as sheet_refused}
 use Rattle.job.specs.declared.faults.Fault.{Fault}
 use Rattle.job.specs.declared.faults.Fault.TheVariants.{Text, Sheet}
 
 abbrev pub layer : Fault → List ℕ
 layer (Text e) = codes "text"
-layer (Sheet f) = sheet-layer f
+layer (Sheet f) = sheet_layer f
 
 abbrev pub refused : Fault → Refusal
 refused (Text e) = e
-refused (Sheet f) = sheet-refused f
+refused (Sheet f) = sheet_refused f
 
 -- how a line goes: nothing after an accepted put, blot or wipe, the counts after an accepted read
 abbrev pub Outcome : Type 0

@@ -5,14 +5,14 @@ ghost use Rattle.job.specs.Answers.{tabbed, printed};
 
 use crate::faults::Fault;
 use code::Counts;
-use std::fmt;
+use std::alloc::AllocError;
 use std::fmt::Write;
 
 // Nothing after an accepted put, blot or wipe, and the counts after an accepted read.
 pub type Outcome = Result<Option<Counts>, Fault>;
 
 // Writes the symbols, each after a tab.
-fn print_symbols(out: &mut String, message: &[u16]) -> fmt::Result
+fn print_symbols(out: &mut String, message: &[u16]) -> Result<(), AllocError>
     ensures { OnOk result (string_bytes out.new ≡ string_bytes out.old ++ flat_map tabbed message.now) }
 {
     for i in 0..message.len() {
@@ -28,7 +28,7 @@ pub(crate) fn print_answer(
     number: usize,
     outcome: Outcome,
     message: &[u16],
-) -> fmt::Result
+) -> Result<(), AllocError>
     ensures { OnOk result (string_bytes out.new ≡ string_bytes out.old ++ printed number outcome message.now) }
 {
     match outcome {

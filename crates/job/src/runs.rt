@@ -1,23 +1,10 @@
 // Runs: a job's lines, one after another, on one sheet.
-ghost use Rattle.std.specs.Prelude.{◌≡◌, ℕ, ◌+◌, ◌≤◌, List, [], ◌∷◌, ◌++◌, length, string_bytes};
+ghost use Rattle.std.specs.Prelude.{◌≡◌};
 ghost use Rattle.code.specs.Calls.{TakesOut};
 ghost use Rattle.code.specs.Refusals.{Verdict as Refused};
-ghost use Rattle.sheet.specs.declared.calls.Call.{Call};
-ghost use Rattle.sheet.specs.Marks.{Marks};
-ghost use Rattle.lines.specs.Calls.{asked};
-ghost use Rattle.job.specs.declared.faults.Fault.TheVariants.{Text};
-ghost use Rattle.job.specs.Answers.{printed};
-ghost use Rattle.job.specs.Transcripts.{Equipped, lifted, LineGoes, noted, Transcript};
-ghost use Rattle.job.specs.Jobs.{pieces, JobPrints};
+ghost use Rattle.job.specs.Transcripts.{lifted};
 
-use crate::answers::{Outcome, print_answer};
-use crate::codes::{fare_code, shift_code, trip_code};
-use crate::faults::Fault;
 use code::Code;
-use lines::{Name, find_byte, parse_call, parse_name};
-use sheet::Sheet;
-use std::alloc::Global;
-use std::fmt;
 
 // The first of the input's bytes that are looked at, and the first of their lines.
 const MAX_BYTES: usize = 4_000_000;
@@ -31,5 +18,3 @@ fn take_message<C: Code>(code: &C, word: &[u16], message: &mut [u16]) -> Result<
     code.take_out(word, message)?;
     Ok(())
 }
-
-pub fn run() {}
