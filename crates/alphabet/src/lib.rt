@@ -25,7 +25,7 @@ pub trait Alphabet {
 
     ghost times: { ℕ → ℕ → ℕ };
 
-    // Q again. Generic code reads q here: there nothing is known of an associated constant's value.
+    // Q again, as each alphabet says. Generic code reads q here, since no law of the trait ties the constant to the size.
     fn size() -> u16
         ensures { result ≡ size };
 

@@ -145,7 +145,7 @@ fn heavy_cell(d1: usize, weight: u16, cell: u16, symbol: u16) -> usize
 
 // What a word weighs against a row of the grid.
 fn row_weight(cells: &[u16], word: &[u16], weights: &[u16], d1: usize) -> usize
-    requires word_len { (length word.now ≡ length cells.now) × (length weights.now ≡ length cells.now) × (length cells.now ≤ 4096) × (d1 ≤ 4096) }
+    requires sizes { (length word.now ≡ length cells.now) × (length weights.now ≡ length cells.now) × (length cells.now ≤ 4096) × (d1 ≤ 4096) }
     requires low { (k : ℕ) → k < length cells.now → slice_index weights.now k ≤ d1 }
     ensures { result ≡ heft (length cells.now) d1 (λ j. slice_index weights.now j) cells.now word.now }
 {

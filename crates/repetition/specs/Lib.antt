@@ -1,4 +1,4 @@
--- The definitions that contracts cite.
+-- The definitions that contracts cite, and the lemmas by which the impls show their laws.
 pub mod Repeats
 pub mod Votes
 pub mod RepeatsLemmas

@@ -1,3 +1,3 @@
--- The definitions that contracts cite.
+-- The definitions that contracts cite, and the lemmas by which the impls show their laws.
 pub mod Limits
 pub mod LimitsLemmas
