@@ -22,14 +22,15 @@ fn print_symbols(out: &mut String, message: &[u16]) -> Result<(), AllocError>
     Ok(())
 }
 
-// Writes what line `number` prints, given how it went and the message that was read.
+// Writes what line `number` prints, given how it went and the message that was read. A line that prints nothing needs no memory, so it can't fail.
 pub(crate) fn print_answer(
     out: &mut String,
     number: usize,
     outcome: Outcome,
     message: &[u16],
 ) -> Result<(), AllocError>
-    ensures { OnOk result (string_bytes out.new ≡ string_bytes out.old ++ printed number outcome message.now) }
+    ensures bytes { OnOk result (string_bytes out.new ≡ string_bytes out.old ++ printed number outcome message.now) }
+    ensures quiet { outcome ≡ Ok None → result ≡ Ok tt }
 {
     match outcome {
         Ok(None) => Ok(()),
@@ -48,5 +49,30 @@ pub(crate) fn print_answer(
             let place = refusal.place;
             write!(out, "NO\t{number}\t{layer}\t{reason}\t{place}\n")
         }
+    }
+}
+
+#[cfg(test)]
+mod tests {
+    use super::print_answer;
+    use crate::faults::Fault;
+    use code::{Counts, Reason};
+    use std::test::Fail;
+
+    #[test]
+    fn prints_lines(rt: HostRuntime) -> Result<(), Fail> {
+        let mut out = String::new(rt.alloc());
+        let off_sheet = Fault::Sheet(sheet::Fault::Sheet(Reason::OffSheet.at(12)));
+        let lost = Fault::Sheet(sheet::Fault::Code(Reason::Lost.at(0)));
+        let read = Counts { wrong: 0, blank: 5 };
+        print_answer(&mut out, 9, Err(off_sheet), &[])?;
+        print_answer(&mut out, 10, Ok(Some(read)), &[1, 2, 3])?;
+        print_answer(&mut out, 11, Ok(None), &[])?;
+        print_answer(&mut out, 12, Err(Fault::Text(Reason::Garbled.at(3))), &[])?;
+        print_answer(&mut out, 13, Err(lost), &[])?;
+        let wanted =
+            "NO\t9\tsheet\t7\t12\nWORD\t0\t5\t1\t2\t3\nNO\t12\ttext\t9\t3\nNO\t13\tcode\t6\t0\n";
+        assert!(rt; out.as_str() == wanted);
+        Ok(())
     }
 }
