@@ -8,7 +8,7 @@ mod polynomials;
 mod remainders;
 
 pub use polynomials::Sixteen;
-pub use remainders::{Bits, Digits};
+pub use remainders::{Bits, Digits, Modulus};
 
 // A kind of symbols. Every operation belongs to the kind, so no value of it is needed; an operand at or above q counts as its remainder on division by q.
 pub trait Alphabet {
@@ -17,26 +17,24 @@ pub trait Alphabet {
 
     ghost Q: { ℕ };
 
-    ghost size: { ℕ };
-
     ghost plus: { ℕ → ℕ → ℕ };
 
     ghost minus: { ℕ → ℕ };
 
     ghost times: { ℕ → ℕ → ℕ };
 
-    // Q again, as each alphabet says. Generic code reads q here, since no law of the trait ties the constant to the size.
+    // Q, as a call
     fn size() -> u16
-        ensures { result ≡ size };
+        ensures { result ≡ Q };
 
     fn add(a: u16, b: u16) -> u16
-        ensures { result ≡ plus (a % size) (b % size) };
+        ensures { result ≡ plus (a % Q) (b % Q) };
 
     fn negate(a: u16) -> u16
-        ensures { result ≡ minus (a % size) };
+        ensures { result ≡ minus (a % Q) };
 
     fn multiply(a: u16, b: u16) -> u16
-        ensures { result ≡ times (a % size) (b % size) };
+        ensures { result ≡ times (a % Q) (b % Q) };
 
-    ghost ring: { Ring size plus minus times };
+    ghost ring: { Ring Q plus minus times };
 }

@@ -39,8 +39,6 @@ impl Alphabet for Sixteen {
 
     ghost Q = { 16 };
 
-    ghost size = { 16 };
-
     ghost plus = { bit_xor };
 
     ghost minus = { λ a. a };
@@ -49,10 +47,7 @@ impl Alphabet for Sixteen {
 
     ghost ring = { sixteen };
 
-    fn size() -> u16
-        ensures is { result ≡ 16 }
-        ensures constant { ⟦<Sixteen as Alphabet>⟧.Q ≡ result }
-    {
+    fn size() -> u16 {
         Self::Q
     }
 

@@ -1,5 +1,5 @@
 // Cells: what they may hold, how many of them differ from a word, and the working cells set back to zero.
-ghost use Rattle.std.specs.Prelude.{◌≡◌, ℕ, ◌+◌, ◌<◌, ◌≤◌, true, ◌≢◌, length, IfOk, Ok, Err, OnOk, slice_index};
+ghost use Rattle.std.specs.Prelude.{None, position, not, ◌≡◌, ℕ, ◌+◌, ◌<◌, ◌≤◌, true, ◌≢◌, length, IfOk, Ok, Err, OnOk, slice_index};
 ghost use Rattle.code.specs.declared.refusals.Reason.TheVariants.{Misfit};
 ghost use Rattle.code.specs.Cells.{good, wrongs, blanks, zeroed};
 ghost use Rattle.code.specs.Refusals.{refusal, clean};
@@ -10,26 +10,36 @@ use crate::refusals::{Reason, Refusal};
 pub const BLANK: u16 = 65535;
 
 // What cells are to hold: a word holds symbols only, and received cells symbols or blanks.
-#[derive(Clone, Copy)]
+#[derive(Clone, Copy, PartialEq, Eq, Debug)]
 pub enum Content {
     Word,
     Received,
 }
 
 // The number of wrong cells, e, and of blanks, s, of received cells against a word.
-#[derive(Clone, Copy)]
+#[derive(Clone, Copy, PartialEq, Eq, Debug)]
 pub struct Counts {
     pub wrong: usize,
     pub blank: usize,
 }
 
-fn is_good(cell: u16, q: u16, content: Content) -> bool
-    ensures { result ≡ good content q cell }
-{
-    match content {
-        Content::Word => cell < q,
-        Content::Received => cell < q || cell == BLANK,
+impl Content {
+    fn allows(self, q: u16, cell: u16) -> bool
+        ensures { result ≡ good self q cell }
+    {
+        match self {
+            Content::Word => cell < q,
+            Content::Received => cell < q || cell == BLANK,
+        }
     }
+}
+
+// Where the first cell stands that may not be there.
+fn find_smudge(cells: &[u16], q: u16, content: Content) -> Option<usize>
+    ensures first { result ≡ position (λ cell. not (good content q cell)) cells.now }
+    ensures passed { result ≡ None → (i : ℕ) → i < length cells.now → good content q (slice_index cells.now i) ≡ true }
+{
+    cells.iter().position(|cell| !content.allows(q, *cell))
 }
 
 // The first cell that may not stand there is a smudge.
@@ -37,12 +47,10 @@ pub fn check_cells(cells: &[u16], q: u16, content: Content) -> Result<(), Refusa
     ensures is { result ≡ clean (good content q) cells.now }
     ensures passed { OnOk result ((i : ℕ) → i < length cells.now → good content q (slice_index cells.now i) ≡ true) }
 {
-    for (i, cell) in cells.iter().enumerate() {
-        if !is_good(*cell, q, content) {
-            return Err(Reason::Smudge.at(i));
-        }
+    match find_smudge(cells, q, content) {
+        Some(at) => Err(Reason::Smudge.at(at)),
+        None => Ok(()),
     }
-    Ok(())
 }
 
 // Counts the wrong cells and the blanks; a word of another length is a misfit.
@@ -55,10 +63,10 @@ pub fn count(received: &[u16], word: &[u16]) -> Result<Counts, Refusal>
     }
     let mut wrong = 0;
     let mut blank = 0;
-    for (i, cell) in received.iter().enumerate() {
+    for (cell, symbol) in received.iter().zip(word) {
         if *cell == BLANK {
             blank += 1;
-        } else if *cell != word[i] {
+        } else if cell != symbol {
             wrong += 1;
         }
     }

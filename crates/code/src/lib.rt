@@ -72,5 +72,5 @@ pub trait Code {
 
     ghost linear: { (c : Self) → Linear (codebook c) (layout c) Self.Symbols.Alphabet.plus Self.Symbols.Alphabet.times };
 
-    ghost symbols: { (c : Self) → (codebook c).q ≡ Self.Symbols.Alphabet.size };
+    ghost symbols: { (c : Self) → (codebook c).q ≡ Self.Symbols.Alphabet.Q };
 }

@@ -7,7 +7,7 @@ pub const MAX_LENGTH: usize = 4096;
 
 pub const MAX_WORKING: usize = 16384;
 
-#[derive(Clone, Copy, Debug)]
+#[derive(Clone, Copy, PartialEq, Eq, Debug)]
 pub enum Reason {
     // the code is longer than 4,096 or asks for more than 16,384 working cells
     Oversize = 1,
@@ -63,14 +63,14 @@ impl Reason {
 }
 
 // Why a call was refused, and where: the index of the first smudge, the place given to a sheet, the field of a garbled line, and else 0.
-#[derive(Clone, Copy, Debug)]
+#[derive(Clone, Copy, PartialEq, Eq, Debug)]
 pub struct Refusal {
     pub reason: Reason,
     pub place: usize,
 }
 
 // How many input, answer and working cells a call is lent, or asks for.
-#[derive(Clone, Copy)]
+#[derive(Clone, Copy, PartialEq, Eq, Debug)]
 pub struct Sizes {
     input: usize,
     answer: usize,

@@ -73,6 +73,6 @@ pub(crate) fn judge<A: Code, B: Code<Symbols = A::Symbols>>(
     requires room { (length work.old ≡ (grids (A.Code.codebook columns.now) (B.Code.codebook rows.now)).working) × (length work.old ≤ 16384) }
     ensures { judges (clean (good Word (A.Code.codebook columns.now).q) cells.now) (grids (A.Code.codebook columns.now) (B.Code.codebook rows.now)) cells.now result }
 {
-    check_cells(cells, A::Symbols::size(), Content::Word)?;
+    check_cells(cells, A::Symbols::Q, Content::Word)?;
     Ok(grid_lawful(columns, rows, cells, work))
 }

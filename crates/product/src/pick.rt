@@ -100,7 +100,7 @@ pub(crate) fn take<A: Code, B: Code<Symbols = A::Symbols>>(
     requires tray { length answer.old ≡ (A.Code.layout columns.now).k * (B.Code.layout rows.now).k }
     ensures { takes (clean (good Word (A.Code.codebook columns.now).q) word.now) (laid (B.Code.codebook rows.now) (A.Code.layout columns.now) (B.Code.layout rows.now)) word.now answer.old answer.new result }
 {
-    check_cells(word, A::Symbols::size(), Content::Word)?;
+    check_cells(word, A::Symbols::Q, Content::Word)?;
     pick(columns, rows, word, answer);
     Ok(())
 }

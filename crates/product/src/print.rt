@@ -146,7 +146,7 @@ pub(crate) fn print<A: Code, B: Code<Symbols = A::Symbols>>(
     requires room { (length work.old ≡ (grids (A.Code.codebook columns.now) (B.Code.codebook rows.now)).working) × (length work.old ≤ 16384) }
     ensures { encodes (clean (good Word (A.Code.codebook columns.now).q) message.now) (grids (A.Code.codebook columns.now) (B.Code.codebook rows.now)) (laid (B.Code.codebook rows.now) (A.Code.layout columns.now) (B.Code.layout rows.now)) message.now answer.old answer.new result }
 {
-    check_cells(message, A::Symbols::size(), Content::Word)?;
+    check_cells(message, A::Symbols::Q, Content::Word)?;
     encode_grid(columns, rows, message, answer, work);
     Ok(())
 }

@@ -399,6 +399,6 @@ pub(crate) fn attempt<A: Code, B: Code<Symbols = A::Symbols>>(
     requires room { (length work.old ≡ (grids (A.Code.codebook columns.now) (B.Code.codebook rows.now)).working) × (length work.old ≤ 16384) }
     ensures { reads (clean (good Received (A.Code.codebook columns.now).q) received.now) (grids (A.Code.codebook columns.now) (B.Code.codebook rows.now)) received.now answer.old answer.new result }
 {
-    check_cells(received, A::Symbols::size(), Content::Received)?;
+    check_cells(received, A::Symbols::Q, Content::Received)?;
     solve(columns, rows, received, answer, work)
 }

@@ -63,10 +63,10 @@ fn read_repeated<S: Alphabet>(
 ) -> Result<Counts, Refusal>
     requires low { 1 ≤ n }
     requires high { n ≤ 64 }
-    ensures { Reads (repeats S.Alphabet.size n) received.now answer.old answer.new work.old work.new result }
+    ensures { Reads (repeats S.Alphabet.Q n) received.now answer.old answer.new work.old work.new result }
 {
     check_read(n, WORKING_CELLS, received, answer, work)?;
-    check_cells(received, S::size(), Content::Received)?;
+    check_cells(received, S::Q, Content::Received)?;
     let symbol = votes::elect(received);
     let word = [symbol; MAX_REPEATS];
     let counts = count(received, &word[0..n])?;
@@ -80,10 +80,10 @@ fn read_repeated<S: Alphabet>(
 fn judge_repeated<S: Alphabet>(n: usize, cells: &[u16], work: &mut [u16]) -> Result<bool, Refusal>
     requires low { 1 ≤ n }
     requires high { n ≤ 64 }
-    ensures { Judges (repeats S.Alphabet.size n) cells.now work.old work.new result }
+    ensures { Judges (repeats S.Alphabet.Q n) cells.now work.old work.new result }
 {
     check_lawful(n, WORKING_CELLS, cells, work)?;
-    check_cells(cells, S::size(), Content::Word)?;
+    check_cells(cells, S::Q, Content::Word)?;
     for cell in cells {
         if *cell != cells[0] {
             return Ok(false);
@@ -100,10 +100,10 @@ fn encode_repeated<S: Alphabet>(
 ) -> Result<(), Refusal>
     requires low { 1 ≤ n }
     requires high { n ≤ 64 }
-    ensures { Encodes (repeats S.Alphabet.size n) first message.now answer.old answer.new work.old work.new result }
+    ensures { Encodes (repeats S.Alphabet.Q n) first message.now answer.old answer.new work.old work.new result }
 {
     check_encode(n, 1, WORKING_CELLS, message, answer, work)?;
-    check_cells(message, S::size(), Content::Word)?;
+    check_cells(message, S::Q, Content::Word)?;
     answer.fill(message[0]);
     Ok(())
 }
@@ -111,10 +111,10 @@ fn encode_repeated<S: Alphabet>(
 fn take_repeated<S: Alphabet>(n: usize, word: &[u16], answer: &mut [u16]) -> Result<(), Refusal>
     requires low { 1 ≤ n }
     requires high { n ≤ 64 }
-    ensures { TakesOut (repeats S.Alphabet.size n) first word.now answer.old answer.new result }
+    ensures { TakesOut (repeats S.Alphabet.Q n) first word.now answer.old answer.new result }
 {
     check_take_out(n, 1, WORKING_CELLS, word, answer)?;
-    check_cells(word, S::size(), Content::Word)?;
+    check_cells(word, S::Q, Content::Word)?;
     answer[0] = word[0];
     Ok(())
 }
@@ -122,16 +122,16 @@ fn take_repeated<S: Alphabet>(n: usize, word: &[u16], answer: &mut [u16]) -> Res
 impl<S: Alphabet> Code for Repetition<S> {
     type Symbols = S;
 
-    ghost codebook = { λ c. limited (repeatable c.n) S.Alphabet.size (repeats S.Alphabet.size c.n) };
+    ghost codebook = { λ c. limited (repeatable c.n) S.Alphabet.Q (repeats S.Alphabet.Q c.n) };
 
     ghost layout = { λ c. limited_layout (repeatable c.n) first };
 
     ghost apart = { λ c.
-        limited_apart (repeatable c.n) S.Alphabet.size (repeats S.Alphabet.size c.n) (zero_in S.Alphabet.ring)
-        (λ e. repeats_apart S.Alphabet.size c.n (at_least_one c.n e)) };
+        limited_apart (repeatable c.n) S.Alphabet.Q (repeats S.Alphabet.Q c.n) (zero_in S.Alphabet.ring)
+        (λ e. repeats_apart S.Alphabet.Q c.n (at_least_one c.n e)) };
 
     ghost linear = { λ c.
-        limited_linear (repeatable c.n) (repeats S.Alphabet.size c.n) first S.Alphabet.ring
+        limited_linear (repeatable c.n) (repeats S.Alphabet.Q c.n) first S.Alphabet.ring
         (λ e. repeats_linear c.n S.Alphabet.ring (at_least_one c.n e)) };
 
     ghost symbols = { Prim.search rules };

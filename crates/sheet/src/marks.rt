@@ -50,7 +50,7 @@ impl<'a> Sheet<'a> {
         ensures cells { result.cells.now ≡ left result.q result.n Wipe cells.old }
         ensures lender { result.cells.ghost_name ≡ cells.entry.ghost_name }
     {
-        let q = C::Symbols::size();
+        let q = C::Symbols::Q;
         let n = Sheet::places(code, cells);
         blank_front(cells, n);
         Sheet { cells, q, n }

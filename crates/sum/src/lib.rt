@@ -64,10 +64,10 @@ fn read_balanced<S: Alphabet>(
 ) -> Result<Counts, Refusal>
     requires low { 2 ≤ n }
     requires high { n ≤ 64 }
-    ensures { Reads (balances S.Alphabet.plus S.Alphabet.size n) received.now answer.old answer.new work.old work.new result }
+    ensures { Reads (balances S.Alphabet.plus S.Alphabet.Q n) received.now answer.old answer.new work.old work.new result }
 {
     check_read(n, WORKING_CELLS, received, answer, work)?;
-    check_cells(received, S::size(), Content::Received)?;
+    check_cells(received, S::Q, Content::Received)?;
     let scan = scan_cells::<S>(received);
     if scan.blanks > 1 {
         return Err(Reason::Lost.at(0));
@@ -87,10 +87,10 @@ fn read_balanced<S: Alphabet>(
 fn judge_balanced<S: Alphabet>(n: usize, cells: &[u16], work: &mut [u16]) -> Result<bool, Refusal>
     requires low { 2 ≤ n }
     requires high { n ≤ 64 }
-    ensures { Judges (balances S.Alphabet.plus S.Alphabet.size n) cells.now work.old work.new result }
+    ensures { Judges (balances S.Alphabet.plus S.Alphabet.Q n) cells.now work.old work.new result }
 {
     check_lawful(n, WORKING_CELLS, cells, work)?;
-    check_cells(cells, S::size(), Content::Word)?;
+    check_cells(cells, S::Q, Content::Word)?;
     Ok(scan_cells::<S>(cells).total == 0)
 }
 
@@ -102,10 +102,10 @@ fn encode_balanced<S: Alphabet>(
 ) -> Result<(), Refusal>
     requires low { 2 ≤ n }
     requires high { n ≤ 64 }
-    ensures { Encodes (balances S.Alphabet.plus S.Alphabet.size n) (but_last n) message.now answer.old answer.new work.old work.new result }
+    ensures { Encodes (balances S.Alphabet.plus S.Alphabet.Q n) (but_last n) message.now answer.old answer.new work.old work.new result }
 {
     check_encode(n, n - 1, WORKING_CELLS, message, answer, work)?;
-    check_cells(message, S::size(), Content::Word)?;
+    check_cells(message, S::Q, Content::Word)?;
     answer[0..n - 1].copy_from_slice(message);
     answer[n - 1] = S::negate(scan_cells::<S>(message).total);
     Ok(())
@@ -114,10 +114,10 @@ fn encode_balanced<S: Alphabet>(
 fn take_balanced<S: Alphabet>(n: usize, word: &[u16], answer: &mut [u16]) -> Result<(), Refusal>
     requires low { 2 ≤ n }
     requires high { n ≤ 64 }
-    ensures { TakesOut (balances S.Alphabet.plus S.Alphabet.size n) (but_last n) word.now answer.old answer.new result }
+    ensures { TakesOut (balances S.Alphabet.plus S.Alphabet.Q n) (but_last n) word.now answer.old answer.new result }
 {
     check_take_out(n, n - 1, WORKING_CELLS, word, answer)?;
-    check_cells(word, S::size(), Content::Word)?;
+    check_cells(word, S::Q, Content::Word)?;
     answer.copy_from_slice(&word[0..n - 1]);
     Ok(())
 }
@@ -125,16 +125,16 @@ fn take_balanced<S: Alphabet>(n: usize, word: &[u16], answer: &mut [u16]) -> Res
 impl<S: Alphabet> Code for Sum<S> {
     type Symbols = S;
 
-    ghost codebook = { λ c. limited (summable c.n) S.Alphabet.size (balances S.Alphabet.plus S.Alphabet.size c.n) };
+    ghost codebook = { λ c. limited (summable c.n) S.Alphabet.Q (balances S.Alphabet.plus S.Alphabet.Q c.n) };
 
     ghost layout = { λ c. limited_layout (summable c.n) (but_last c.n) };
 
     ghost apart = { λ c.
-        limited_apart (summable c.n) S.Alphabet.size (balances S.Alphabet.plus S.Alphabet.size c.n) (zero_in S.Alphabet.ring)
+        limited_apart (summable c.n) S.Alphabet.Q (balances S.Alphabet.plus S.Alphabet.Q c.n) (zero_in S.Alphabet.ring)
         (λ e. balances_apart S.Alphabet.ring c.n (at_least_two c.n e)) };
 
     ghost linear = { λ c.
-        limited_linear (summable c.n) (balances S.Alphabet.plus S.Alphabet.size c.n) (but_last c.n) S.Alphabet.ring
+        limited_linear (summable c.n) (balances S.Alphabet.plus S.Alphabet.Q c.n) (but_last c.n) S.Alphabet.ring
         (λ e. balances_linear S.Alphabet.ring c.n (at_least_two c.n e)) };
 
     ghost symbols = { Prim.search rules };

@@ -15,7 +15,7 @@ pub(crate) struct Scan {
 }
 
 pub(crate) fn scan_cells<S: Alphabet>(received: &[u16]) -> Scan
-    requires { (i : ℕ) → i < length received.now → good Received S.Alphabet.size (slice_index received.now i) ≡ true }
+    requires { (i : ℕ) → i < length received.now → good Received S.Alphabet.Q (slice_index received.now i) ≡ true }
     ensures is { Scanned S.Alphabet.plus received.now (length received.now) result }
     ensures few { result.blanks ≤ length received.now }
 {

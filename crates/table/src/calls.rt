@@ -33,14 +33,14 @@ fn read_nearest<S: Alphabet>(
 ) -> Result<Counts, Refusal>
     requires some { 1 ≤ k }
     requires short { k + m ≤ 24 }
-    requires listable { S.Alphabet.size ^ k ≤ 65536 }
+    requires listable { S.Alphabet.Q ^ k ≤ 65536 }
     requires table { k * m ≤ length rows.now }
     requires received { length received.now ≡ k + m }
     requires answer { length answer.old ≡ k + m }
     requires word { length word.old ≡ k + m }
-    ensures { reads (clean (good Received S.Alphabet.size) received.now) (tables (generator S.Alphabet.size S.Alphabet.plus S.Alphabet.times k m rows.now)) received.now answer.old answer.new result }
+    ensures { reads (clean (good Received S.Alphabet.Q) received.now) (tables (generator S.Alphabet.Q S.Alphabet.plus S.Alphabet.times k m rows.now)) received.now answer.old answer.new result }
 {
-    check_cells(received, S::size(), Content::Received)?;
+    check_cells(received, S::Q, Content::Received)?;
     let n = k + m;
     let mut buffer = [0; MAX_WORD];
     let nearest = &mut buffer[0..n];
@@ -63,9 +63,9 @@ fn read_table<S: Alphabet>(
     requires some { 1 ≤ k }
     requires short { k ≤ 8 }
     requires narrow { m ≤ 16 }
-    requires listable { S.Alphabet.size ^ k ≤ 65536 }
+    requires listable { S.Alphabet.Q ^ k ≤ 65536 }
     requires table { k * m ≤ length rows.now }
-    ensures { Reads (tables (generator S.Alphabet.size S.Alphabet.plus S.Alphabet.times k m rows.now)) received.now answer.old answer.new work.old work.new result }
+    ensures { Reads (tables (generator S.Alphabet.Q S.Alphabet.plus S.Alphabet.times k m rows.now)) received.now answer.old answer.new work.old work.new result }
 {
     let n = k + m;
     check_read(n, n, received, answer, work)?;
@@ -84,12 +84,12 @@ fn judge_table<S: Alphabet>(
     requires short { k ≤ 8 }
     requires narrow { m ≤ 16 }
     requires table { k * m ≤ length rows.now }
-    ensures { Judges (tables (generator S.Alphabet.size S.Alphabet.plus S.Alphabet.times k m rows.now)) cells.now work.old work.new result }
+    ensures { Judges (tables (generator S.Alphabet.Q S.Alphabet.plus S.Alphabet.times k m rows.now)) cells.now work.old work.new result }
 {
     let n = k + m;
     check_lawful(n, n, cells, work)?;
     zero_front(work, n);
-    check_cells(cells, S::size(), Content::Word)?;
+    check_cells(cells, S::Q, Content::Word)?;
     for j in 0..m {
         if cells[k + j] != check_symbol::<S>(k, m, rows, cells, j) {
             return Ok(false);
@@ -109,12 +109,12 @@ fn encode_table<S: Alphabet>(
     requires short { k ≤ 8 }
     requires narrow { m ≤ 16 }
     requires table { k * m ≤ length rows.now }
-    ensures { Encodes (tables (generator S.Alphabet.size S.Alphabet.plus S.Alphabet.times k m rows.now)) (front k) message.now answer.old answer.new work.old work.new result }
+    ensures { Encodes (tables (generator S.Alphabet.Q S.Alphabet.plus S.Alphabet.times k m rows.now)) (front k) message.now answer.old answer.new work.old work.new result }
 {
     let n = k + m;
     check_encode(n, k, n, message, answer, work)?;
     zero_front(work, n);
-    check_cells(message, S::size(), Content::Word)?;
+    check_cells(message, S::Q, Content::Word)?;
     answer[0..k].copy_from_slice(message);
     finish_word::<S>(k, m, rows, answer);
     Ok(())
@@ -129,11 +129,11 @@ fn take_table<S: Alphabet>(
 ) -> Result<(), Refusal>
     requires short { k ≤ 8 }
     requires narrow { m ≤ 16 }
-    ensures { TakesOut (tables (generator S.Alphabet.size S.Alphabet.plus S.Alphabet.times k m rows.now)) (front k) word.now answer.old answer.new result }
+    ensures { TakesOut (tables (generator S.Alphabet.Q S.Alphabet.plus S.Alphabet.times k m rows.now)) (front k) word.now answer.old answer.new result }
 {
     let n = k + m;
     check_take_out(n, k, n, word, answer)?;
-    check_cells(word, S::size(), Content::Word)?;
+    check_cells(word, S::Q, Content::Word)?;
     answer.copy_from_slice(&word[0..k]);
     Ok(())
 }
@@ -142,10 +142,10 @@ fn take_table<S: Alphabet>(
 fn least_weight<S: Alphabet>(k: usize, m: usize, rows: &[u16]) -> usize
     requires some { 1 ≤ k }
     requires short { k + m ≤ 24 }
-    requires listable { S.Alphabet.size ^ k ≤ 65536 }
+    requires listable { S.Alphabet.Q ^ k ≤ 65536 }
     requires table { k * m ≤ length rows.now }
-    ensures is { result ≡ (tables (generator S.Alphabet.size S.Alphabet.plus S.Alphabet.times k m rows.now)).d }
-    ensures lightest { Least (generator S.Alphabet.size S.Alphabet.plus S.Alphabet.times k m rows.now) result }
+    ensures is { result ≡ (tables (generator S.Alphabet.Q S.Alphabet.plus S.Alphabet.times k m rows.now)).d }
+    ensures lightest { Least (generator S.Alphabet.Q S.Alphabet.plus S.Alphabet.times k m rows.now) result }
 {
     let n = k + m;
     let zero = [0; MAX_WORD];
@@ -160,17 +160,17 @@ fn least_weight<S: Alphabet>(k: usize, m: usize, rows: &[u16]) -> usize
 impl<S: Alphabet> Code for Table<S> {
     type Symbols = S;
 
-    ghost codebook = { λ c. limited (tabulable S.Alphabet.size c.k c.m) S.Alphabet.size (tables (generator S.Alphabet.size S.Alphabet.plus S.Alphabet.times c.k c.m c.rows)) };
+    ghost codebook = { λ c. limited (tabulable S.Alphabet.Q c.k c.m) S.Alphabet.Q (tables (generator S.Alphabet.Q S.Alphabet.plus S.Alphabet.times c.k c.m c.rows)) };
 
-    ghost layout = { λ c. limited_layout (tabulable S.Alphabet.size c.k c.m) (front c.k) };
+    ghost layout = { λ c. limited_layout (tabulable S.Alphabet.Q c.k c.m) (front c.k) };
 
     ghost apart = { λ c.
-        let s : Generator = generator S.Alphabet.size S.Alphabet.plus S.Alphabet.times c.k c.m c.rows in
+        let s : Generator = generator S.Alphabet.Q S.Alphabet.plus S.Alphabet.times c.k c.m c.rows in
         limited_apart (tabulable s.q s.k s.m) s.q (tables s) (zero_in S.Alphabet.ring)
         (λ e. tables_apart s S.Alphabet.ring (at_least_one s.q s.k s.m e)) };
 
     ghost linear = { λ c.
-        let s : Generator = generator S.Alphabet.size S.Alphabet.plus S.Alphabet.times c.k c.m c.rows in
+        let s : Generator = generator S.Alphabet.Q S.Alphabet.plus S.Alphabet.times c.k c.m c.rows in
         limited_linear (tabulable s.q s.k s.m) (tables s) (front s.k) S.Alphabet.ring
         (λ e. tables_linear s S.Alphabet.ring) };
 
@@ -190,8 +190,8 @@ impl<S: Alphabet> Code for Table<S> {
     }
 
     fn distance(&self) -> usize
-        ensures is { result ≡ answered (limited (tabulable S.Alphabet.size self.now.k self.now.m) S.Alphabet.size (tables (generator S.Alphabet.size S.Alphabet.plus S.Alphabet.times self.now.k self.now.m self.now.rows))).d }
-        ensures lightest { tabulable S.Alphabet.size self.now.k self.now.m ≡ true → Least (generator S.Alphabet.size S.Alphabet.plus S.Alphabet.times self.now.k self.now.m self.now.rows) result }
+        ensures is { result ≡ answered (limited (tabulable S.Alphabet.Q self.now.k self.now.m) S.Alphabet.Q (tables (generator S.Alphabet.Q S.Alphabet.plus S.Alphabet.times self.now.k self.now.m self.now.rows))).d }
+        ensures lightest { tabulable S.Alphabet.Q self.now.k self.now.m ≡ true → Least (generator S.Alphabet.Q S.Alphabet.plus S.Alphabet.times self.now.k self.now.m self.now.rows) result }
     {
         if is_tabulable::<S>(self.k, self.m) {
             least_weight::<S>(self.k, self.m, &self.rows)

@@ -24,10 +24,10 @@ fn change_symbol<S: Alphabet>(
     symbol: u16,
 )
     requires table { k * m ≤ length rows.now }
-    requires tabled { Tabled (generator S.Alphabet.size S.Alphabet.plus S.Alphabet.times k m rows.now) word.old }
+    requires tabled { Tabled (generator S.Alphabet.Q S.Alphabet.plus S.Alphabet.times k m rows.now) word.old }
     requires inside { i < k }
-    requires symbol { symbol < S.Alphabet.size }
-    ensures tabled { Tabled (generator S.Alphabet.size S.Alphabet.plus S.Alphabet.times k m rows.now) word.new }
+    requires symbol { symbol < S.Alphabet.Q }
+    ensures tabled { Tabled (generator S.Alphabet.Q S.Alphabet.plus S.Alphabet.times k m rows.now) word.new }
     ensures here { slice_index word.new i ≡ symbol }
     ensures others { (j : ℕ) → j < k → j ≢ i → slice_index word.new j ≡ slice_index word.old j }
 {
@@ -41,11 +41,11 @@ fn change_symbol<S: Alphabet>(
 // The word of the next message, counting in base q from the first symbol on.
 fn advance<S: Alphabet>(k: usize, m: usize, rows: &[u16], word: &mut [u16])
     requires table { k * m ≤ length rows.now }
-    requires tabled { Tabled (generator S.Alphabet.size S.Alphabet.plus S.Alphabet.times k m rows.now) word.old }
-    ensures tabled { Tabled (generator S.Alphabet.size S.Alphabet.plus S.Alphabet.times k m rows.now) word.new }
-    ensures next { number S.Alphabet.size k (λ i. slice_index word.old i) + 1 < S.Alphabet.size ^ k → number S.Alphabet.size k (λ i. slice_index word.new i) ≡ number S.Alphabet.size k (λ i. slice_index word.old i) + 1 }
+    requires tabled { Tabled (generator S.Alphabet.Q S.Alphabet.plus S.Alphabet.times k m rows.now) word.old }
+    ensures tabled { Tabled (generator S.Alphabet.Q S.Alphabet.plus S.Alphabet.times k m rows.now) word.new }
+    ensures next { number S.Alphabet.Q k (λ i. slice_index word.old i) + 1 < S.Alphabet.Q ^ k → number S.Alphabet.Q k (λ i. slice_index word.new i) ≡ number S.Alphabet.Q k (λ i. slice_index word.old i) + 1 }
 {
-    let q = S::size();
+    let q = S::Q;
     for i in 0..k {
         let symbol = word[i];
         if symbol + 1 < q {
@@ -67,12 +67,12 @@ pub(crate) fn survey_words<S: Alphabet>(
 ) -> Result<Survey, Refusal>
     requires some { 1 ≤ k }
     requires short { k + m ≤ 24 }
-    requires listable { S.Alphabet.size ^ k ≤ 65536 }
+    requires listable { S.Alphabet.Q ^ k ≤ 65536 }
     requires table { k * m ≤ length rows.now }
     requires received { length received.now ≡ k + m }
     requires word { length word.old ≡ k + m }
     requires nearest { length nearest.old ≡ k + m }
-    ensures { elim result [ Ok y ↦ Surveyed (generator S.Alphabet.size S.Alphabet.plus S.Alphabet.times k m rows.now) received.now nearest.new y | Err e ↦ ⊥ ] }
+    ensures { elim result [ Ok y ↦ Surveyed (generator S.Alphabet.Q S.Alphabet.plus S.Alphabet.times k m rows.now) received.now nearest.new y | Err e ↦ ⊥ ] }
 {
     let n = k + m;
     let zero = [0; MAX_WORD];

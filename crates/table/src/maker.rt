@@ -28,7 +28,7 @@ impl<S: Alphabet> Table<S> {
 
     // Fills the table, or leaves it as it was.
     pub fn fill(&mut self, k: usize, m: usize, coefficients: &[u16]) -> Result<(), Refusal>
-        ensures is { result ≡ fillable S.Alphabet.size k m coefficients.now }
+        ensures is { result ≡ fillable S.Alphabet.Q k m coefficients.now }
         ensures table { elim result [ Ok u ↦ (self.new.k ≡ k) × (self.new.m ≡ m) × (self.new.rows ≡ coefficients.now ++ replicate (128 - k * m) 0) | Err e ↦ self.new ≡ self.old ] }
     {
         if !is_tabulable::<S>(k, m) {
@@ -37,7 +37,7 @@ impl<S: Alphabet> Table<S> {
         if coefficients.len() != k * m {
             return Err(Reason::Misfit.at(0));
         }
-        check_cells(coefficients, S::size(), Content::Word)?;
+        check_cells(coefficients, S::Q, Content::Word)?;
         let mut rows = [0; MAX_COEFFICIENTS];
         rows[0..k * m].copy_from_slice(coefficients);
         *self = Table {

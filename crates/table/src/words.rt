@@ -17,9 +17,9 @@ pub(crate) const MAX_COEFFICIENTS: usize = 128;
 
 // How many messages there are, up to the limit; one above it where there are more.
 pub(crate) fn message_count<S: Alphabet>(k: usize) -> usize
-    ensures { result ≡ capped S.Alphabet.size k }
+    ensures { result ≡ capped S.Alphabet.Q k }
 {
-    let q = S::size() as usize;
+    let q = S::Q as usize;
     let mut count = 1;
     for i in 0..k {
         count *= q;
@@ -31,8 +31,8 @@ pub(crate) fn message_count<S: Alphabet>(k: usize) -> usize
 }
 
 pub(crate) fn is_tabulable<S: Alphabet>(k: usize, m: usize) -> bool
-    ensures is { result ≡ tabulable S.Alphabet.size k m }
-    ensures limits { T result → (1 ≤ k) × (k ≤ 8) × (1 ≤ m) × (m ≤ 16) × (S.Alphabet.size ^ k ≤ 65536) × (k * m ≤ 128) }
+    ensures is { result ≡ tabulable S.Alphabet.Q k m }
+    ensures limits { T result → (1 ≤ k) × (k ≤ 8) × (1 ≤ m) × (m ≤ 16) × (S.Alphabet.Q ^ k ≤ 65536) × (k * m ≤ 128) }
 {
     1 <= k && k <= MAX_MESSAGE && 1 <= m && m <= MAX_CHECKS && message_count::<S>(k) <= MAX_MESSAGES
 }
@@ -48,9 +48,9 @@ pub(crate) fn check_symbol<S: Alphabet>(
     requires message { k ≤ length cells.now }
     requires table { k * m ≤ length rows.now }
     requires inside { j < m }
-    requires symbols { (i : ℕ) → i < k → slice_index cells.now i < S.Alphabet.size }
-    ensures is { result ≡ check (generator S.Alphabet.size S.Alphabet.plus S.Alphabet.times k m rows.now) (λ i. slice_index cells.now i) j }
-    ensures low { result < S.Alphabet.size }
+    requires symbols { (i : ℕ) → i < k → slice_index cells.now i < S.Alphabet.Q }
+    ensures is { result ≡ check (generator S.Alphabet.Q S.Alphabet.plus S.Alphabet.times k m rows.now) (λ i. slice_index cells.now i) j }
+    ensures low { result < S.Alphabet.Q }
 {
     let mut sum = 0;
     for i in 0..k {
@@ -63,9 +63,9 @@ pub(crate) fn check_symbol<S: Alphabet>(
 pub(crate) fn finish_word<S: Alphabet>(k: usize, m: usize, rows: &[u16], cells: &mut [u16])
     requires long { k + m ≤ length cells.old }
     requires table { k * m ≤ length rows.now }
-    requires symbols { (i : ℕ) → i < k → slice_index cells.old i < S.Alphabet.size }
+    requires symbols { (i : ℕ) → i < k → slice_index cells.old i < S.Alphabet.Q }
     ensures front { (i : ℕ) → i < k → slice_index cells.new i ≡ slice_index cells.old i }
-    ensures back { (j : ℕ) → j < m → slice_index cells.new (k + j) ≡ check (generator S.Alphabet.size S.Alphabet.plus S.Alphabet.times k m rows.now) (λ i. slice_index cells.old i) j }
+    ensures back { (j : ℕ) → j < m → slice_index cells.new (k + j) ≡ check (generator S.Alphabet.Q S.Alphabet.plus S.Alphabet.times k m rows.now) (λ i. slice_index cells.old i) j }
 {
     for j in 0..m {
         cells[k + j] = check_symbol::<S>(k, m, rows, cells, j);

@@ -34,7 +34,7 @@ impl<S: Alphabet> Trivial<S> {
 impl<S: Alphabet> Code for Trivial<S> {
     type Symbols = S;
 
-    ghost codebook = { λ c. trivial S.Alphabet.size };
+    ghost codebook = { λ c. trivial S.Alphabet.Q };
 
     ghost layout = { λ c. no_message };
 
@@ -71,7 +71,7 @@ impl<S: Alphabet> Code for Trivial<S> {
         work: &mut [u16],
     ) -> Result<Counts, Refusal> {
         check_read(LENGTH, WORKING_CELLS, received, answer, work)?;
-        check_cells(received, S::size(), Content::Received)?;
+        check_cells(received, S::Q, Content::Received)?;
         if received[0] != 0 {
             return Err(Reason::Lost.at(0));
         }
@@ -81,20 +81,20 @@ impl<S: Alphabet> Code for Trivial<S> {
 
     fn lawful(&self, cells: &[u16], work: &mut [u16]) -> Result<bool, Refusal> {
         check_lawful(LENGTH, WORKING_CELLS, cells, work)?;
-        check_cells(cells, S::size(), Content::Word)?;
+        check_cells(cells, S::Q, Content::Word)?;
         Ok(cells[0] == 0)
     }
 
     fn encode(&self, message: &[u16], answer: &mut [u16], work: &mut [u16]) -> Result<(), Refusal> {
         check_encode(LENGTH, MESSAGE_LENGTH, WORKING_CELLS, message, answer, work)?;
-        check_cells(message, S::size(), Content::Word)?;
+        check_cells(message, S::Q, Content::Word)?;
         answer.fill(0);
         Ok(())
     }
 
     fn take_out(&self, word: &[u16], answer: &mut [u16]) -> Result<(), Refusal> {
         check_take_out(LENGTH, MESSAGE_LENGTH, WORKING_CELLS, word, answer)?;
-        check_cells(word, S::size(), Content::Word)?;
+        check_cells(word, S::Q, Content::Word)?;
         Ok(())
     }
 }

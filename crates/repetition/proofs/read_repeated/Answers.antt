@@ -20,26 +20,26 @@ returns-then-counts-n g c =
     let here : n ≤ cost r (replicate n v) = omega (arith, c.if-counts-n.true) in
     let others : (u : ℕ) → u ≢ v → n ≤ cost r (replicate n u) =
     λ u ne. subst (λ (m : ℕ). m ≤ cost r (replicate m u)) long (c.elect-symbol.ensures.others u ne) in
-    reads_passed {a' = c.args.answer.now} c.size.ensures
+    reads_passed {a' = c.args.answer.now} c.Q.ensures
     c.in_ok-check_read.ensures.is c.in_ok-check_cells.ensures.is refl
-    (c.at.ensures, none_near g.S.Alphabet.size n v r others here, refl)
+    (c.at.ensures, none_near g.S.Alphabet.Q n v r others here, refl)
 
 pub returns : goal.returns
 returns g c =
     let r : List ℕ = c.args.received.now in
     let n : ℕ = c.args.n in
-    let q : ℕ = g.S.Alphabet.size in
+    let q : ℕ = g.S.Alphabet.Q in
     let v : ℕ = c.elect-symbol.result in
     let fit = c.in_ok-check_read.ensures.passed in
     let counted = c.in_ok-counts.ensures.is in
     let below : v < q =
-    subst (λ (m : ℕ). v < m) c.size.ensures
-    (c.elect-symbol.ensures.symbol c.size.result (omega (arith, zero_in g.met.S.Alphabet.ring, c.size.ensures)) c.in_ok-check_cells.ensures.passed) in
+    subst (λ (m : ℕ). v < m) c.Q.ensures
+    (c.elect-symbol.ensures.symbol c.Q.result (omega (arith, zero_in g.met.S.Alphabet.ring, c.Q.ensures)) c.in_ok-check_cells.ensures.passed) in
     let near : Within (repeats q n) r (replicate n v) c.in_ok-counts.counts =
     within (repeats q n) (repeats_apart q n c.requires.low) r fit.0 (replicate n v) c.in_ok-counts.counts
     (word q n v below)
     (counted.1 ∙ ap (wrongs r) (front n 64 v c.requires.high)) counted.2 c.if-counts-n.false in
     let filled : c.fill.new.self ≡ replicate n v = c.fill.ensures.after (λ y e. e) ∙ ap (λ m. replicate m v) fit.1 in
-    reads_passed {a' = c.fill.new.self} c.size.ensures
+    reads_passed {a' = c.fill.new.self} c.Q.ensures
     c.in_ok-check_read.ensures.is c.in_ok-check_cells.ensures.is refl
     (subst (λ (a : List ℕ). Within (repeats q n) r a c.in_ok-counts.counts) (sym filled) near)

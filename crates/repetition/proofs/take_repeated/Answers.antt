@@ -7,6 +7,6 @@ pub returns : goal.returns
 returns g c =
     let w : List ℕ = c.args.word.now in
     let a : List ℕ = c.args.answer.now in
-    takes_passed c.size.ensures
+    takes_passed c.Q.ensures
     c.in_ok-check_take_out.ensures.is c.in_ok-check_cells.ensures.is
     (put_one a (get_or w 0 0) c.in_ok-check_take_out.ensures.passed.1)

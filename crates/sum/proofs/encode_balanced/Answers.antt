@@ -12,17 +12,17 @@ pub returns : goal.returns
 returns g c =
     let m : List ℕ = c.args.message.now in
     let n : ℕ = c.args.n in
-    let q : ℕ = g.S.Alphabet.size in
+    let q : ℕ = g.S.Alphabet.Q in
     let ring = g.met.S.Alphabet.ring in
     let fit = c.in_ok-check_encode.ensures.passed in
     let clean : (i : ℕ) → i < length m → good Word q (get_or m i 0) ≡ true =
-    subst (λ (p : ℕ). (i : ℕ) → i < length m → good Word p (get_or m i 0) ≡ true) c.size.ensures c.in_ok-check_cells.ensures.passed in
+    subst (λ (p : ℕ). (i : ℕ) → i < length m → good Word p (get_or m i 0) ≡ true) c.Q.ensures c.in_ok-check_cells.ensures.passed in
     let rest : List ℕ = post_of 0 (n - 1 - 0) c.args.answer.now in
     let room : length rest ≡ 1 = omega (arith, length-drop (n - 1 - 0) c.args.answer.now) in
     let t = c.scan_cells.result.total in
     let v = c.negate.result in
     let copied = c.copy_from_slice.ensures.after in
-    encodes_passed c.size.ensures
+    encodes_passed c.Q.ensures
     c.in_ok-check_encode.ensures.is c.in_ok-check_cells.ensures.is refl
     (subst (λ (front : List ℕ). Balanced g.S.Alphabet.plus q n (set (front ++ rest) (n - 1) v)) (sym copied) (encoded ring n c.requires.low m fit.0 clean t v c.scan_cells.ensures.is.total c.negate.ensures rest room))
     (subst (λ (front : List ℕ). Carries (but_last n) m (set (front ++ rest) (n - 1) v)) (sym copied) (carries ring n c.requires.low m fit.0 clean t v c.scan_cells.ensures.is.total c.negate.ensures rest room))

@@ -13,20 +13,20 @@ grid_lawful-requires g c =
     let a = g.A.Code.codebook c.args.columns.now in
     let sa = g.met.A.Code.symbols c.args.columns.now in
     let sb = g.met.B.Code.symbols c.args.rows.now in
-    let is : c.size.result ≡ a.q = c.size.ensures ∙ sym sa in
+    let is : c.Q.result ≡ a.q = c.Q.ensures ∙ sym sa in
     record {
       size = c.requires.size;
       room = c.requires.room;
       same = sa ∙ sym sb;
-      small = omega (arith, is, c.size.type_inv);
-      symbols = good_symbols a.q c.size.result c.args.cells.now is c.in_ok-check_cells.ensures.passed;
+      small = omega (arith, is, c.Q.type_inv);
+      symbols = good_symbols a.q c.Q.result c.args.cells.now is c.in_ok-check_cells.ensures.passed;
     }
 
 pub returns : goal.returns
 returns g c =
     let a = g.A.Code.codebook c.args.columns.now in
     let b = g.B.Code.codebook c.args.rows.now in
-    let is : c.size.result ≡ a.q = c.size.ensures ∙ sym (g.met.A.Code.symbols c.args.columns.now) in
+    let is : c.Q.result ≡ a.q = c.Q.ensures ∙ sym (g.met.A.Code.symbols c.args.columns.now) in
     subst (λ (v : Verdict). judges v (grids a b) c.args.cells.now (Ok c.grid_lawful.result))
     (subst (λ (q : ℕ). ◌≡◌ {A = Verdict} (Ok tt) (clean (good Word q) c.args.cells.now)) is c.in_ok-check_cells.ensures.is)
     c.grid_lawful.ensures

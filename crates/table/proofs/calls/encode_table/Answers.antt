@@ -17,14 +17,14 @@ finish_word-requires g c =
       long = omega (arith, sized, length-append c.copy_from_slice.new.self rest, length-drop (c.args.k - 0) c.args.answer.now, fit.1);
       table = c.requires.table;
       symbols = λ i l.
-          subst (λ (x : ℕ). x < g.S.Alphabet.size)
+          subst (λ (x : ℕ). x < g.S.Alphabet.Q)
           (sym (get_or_append_left c.copy_from_slice.new.self rest 0 i (omega arith) ∙ ap (λ u. get_or u i 0) copied))
-          (symbol_good (get_or c.args.message.now i 0) g.S.Alphabet.size c.size.result c.size.ensures (c.in_ok-check_cells.ensures.passed i (omega (arith, fit.0))));
+          (symbol_good (get_or c.args.message.now i 0) g.S.Alphabet.Q c.Q.result c.Q.ensures (c.in_ok-check_cells.ensures.passed i (omega (arith, fit.0))));
     }
 
 pub returns : goal.returns
 returns g c =
-    let s : Generator = generator g.S.Alphabet.size g.S.Alphabet.plus g.S.Alphabet.times c.args.k c.args.m c.args.rows.now in
+    let s : Generator = generator g.S.Alphabet.Q g.S.Alphabet.plus g.S.Alphabet.times c.args.k c.args.m c.args.rows.now in
     let ring = g.met.S.Alphabet.ring in
     let x : ℕ → ℕ = λ i. get_or c.args.message.now i 0 in
     let fit = c.in_ok-check_encode.ensures.passed in
@@ -36,8 +36,8 @@ returns g c =
     let at : (i : ℕ) → i < s.k → get_or mid i 0 ≡ x i =
     λ i l. get_or_append_left c.copy_from_slice.new.self rest 0 i (omega arith) ∙ ap (λ u. get_or u i 0) copied in
     let low : (i : ℕ) → i < s.k → x i < s.q =
-    λ i l. symbol_good (x i) s.q c.size.result c.size.ensures (c.in_ok-check_cells.ensures.passed i (omega (arith, fit.0))) in
-    encodes_passed c.size.ensures
+    λ i l. symbol_good (x i) s.q c.Q.result c.Q.ensures (c.in_ok-check_cells.ensures.passed i (omega (arith, fit.0))) in
+    encodes_passed c.Q.ensures
     c.in_ok-check_encode.ensures.is c.in_ok-check_cells.ensures.is c.zero_front.ensures
     (made_word s ring x c.finish_word.new.cells low (c.finish_word.auto.cells ∙ long)
     (made_at s ring x mid c.finish_word.new.cells at c.finish_word.ensures.front c.finish_word.ensures.back))

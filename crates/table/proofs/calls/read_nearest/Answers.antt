@@ -11,18 +11,18 @@ use Rattle.table.proofs.calls.read_nearest.Goals as goal
 
 pub returns-then-survey : goal.returns-then-survey
 returns-then-survey g c =
-    let s : Generator = generator g.S.Alphabet.size g.S.Alphabet.plus g.S.Alphabet.times c.args.k c.args.m c.args.rows.now in
+    let s : Generator = generator g.S.Alphabet.Q g.S.Alphabet.plus g.S.Alphabet.times c.args.k c.args.m c.args.rows.now in
     let r : List ℕ = c.args.received.now in
     let a : List ℕ = c.args.answer.now in
     let y = c.in_ok-survey.ensures in
     let far : least s ≤ cost r c.survey_words.new.nearest = omega (arith, y.distance, y.nearest.wrong, y.nearest.blank, c.if-survey.true) in
     subst (λ (v : Verdict). reads v (tables s) r a a (Err c.at.result))
-    (at_size Received s.q c.size.result r c.size.ensures c.in_ok-check_cells.ensures.is)
+    (at_size Received s.q c.Q.result r c.Q.ensures c.in_ok-check_cells.ensures.is)
     (c.at.ensures, λ v h. omega (arith, far, y.nearest.cheapest v h), refl)
 
 pub returns : goal.returns
 returns g c =
-    let s : Generator = generator g.S.Alphabet.size g.S.Alphabet.plus g.S.Alphabet.times c.args.k c.args.m c.args.rows.now in
+    let s : Generator = generator g.S.Alphabet.Q g.S.Alphabet.plus g.S.Alphabet.times c.args.k c.args.m c.args.rows.now in
     let r : List ℕ = c.args.received.now in
     let y = c.in_ok-survey.ensures in
     let counts = c.in_ok-survey.survey.counts in
@@ -30,5 +30,5 @@ returns g c =
     within (tables s) (tables_apart s g.met.S.Alphabet.ring c.requires.some) r c.requires.received c.survey_words.new.nearest counts
     y.nearest.tabled y.nearest.wrong y.nearest.blank (omega (arith, y.distance, c.if-survey.false)) in
     subst (λ (v : Verdict). reads v (tables s) r c.args.answer.now c.copy_from_slice.new.self (Ok counts))
-    (at_size Received s.q c.size.result r c.size.ensures c.in_ok-check_cells.ensures.is)
+    (at_size Received s.q c.Q.result r c.Q.ensures c.in_ok-check_cells.ensures.is)
     (subst (λ (a : List ℕ). Within (tables s) r a counts) (sym c.copy_from_slice.ensures.after) near)

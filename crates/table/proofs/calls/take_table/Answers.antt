@@ -10,7 +10,7 @@ returns g c =
     let k : ℕ = c.args.k in
     let a : List ℕ = c.copy_from_slice.new.self in
     let copied : a ≡ take (k - 0) w = c.copy_from_slice.ensures.after in
-    takes_passed c.size.ensures
+    takes_passed c.Q.ensures
     c.in_ok-check_take_out.ensures.is c.in_ok-check_cells.ensures.is
     (is_listed k (λ i. get_or w i 0) a (c.copy_from_slice.ensures.len ∙ c.in_ok-check_take_out.ensures.passed.1)
     (λ i l. ap (λ u. get_or u i 0) copied ∙ get_or-take (k - 0) w i 0 (omega arith)))

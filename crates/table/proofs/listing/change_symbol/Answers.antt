@@ -22,7 +22,7 @@ loop-j-init g c = unchanged _ _ _ _
 
 pub loop-j-preserved : goal.loop-j-preserved
 loop-j-preserved g c =
-    let s : Generator = generator g.S.Alphabet.size g.S.Alphabet.plus g.S.Alphabet.times c.args.k c.args.m c.args.rows.now in
+    let s : Generator = generator g.S.Alphabet.Q g.S.Alphabet.plus g.S.Alphabet.times c.args.k c.args.m c.args.rows.now in
     let e : List ℕ = c.args.word.now in
     let at : ℕ = s.k + c.loop-j.j in
     let inside : at < length e = omega (arith, c.requires.tabled.sized, c.loop-j-test.true) in
@@ -35,7 +35,7 @@ loop-j-preserved g c =
 
 pub returns : goal.returns
 returns g c =
-    let s : Generator = generator g.S.Alphabet.size g.S.Alphabet.plus g.S.Alphabet.times c.args.k c.args.m c.args.rows.now in
+    let s : Generator = generator g.S.Alphabet.Q g.S.Alphabet.plus g.S.Alphabet.times c.args.k c.args.m c.args.rows.now in
     let ring = g.met.S.Alphabet.ring in
     let e : List ℕ = c.args.word.now in
     let i : ℕ = c.args.i in

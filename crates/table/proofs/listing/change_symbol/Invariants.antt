@@ -4,4 +4,4 @@ use Rattle.table.proofs.listing.change_symbol.Given as goal
 
 abbrev pub invariant-loop-j : goal.invariant-loop-j
 invariant-loop-j g l =
-    Changing (generator g.S.Alphabet.size g.S.Alphabet.plus g.S.Alphabet.times l.k l.m l.rows) l.initial.word l.word l.i l.change l.j
+    Changing (generator g.S.Alphabet.Q g.S.Alphabet.plus g.S.Alphabet.times l.k l.m l.rows) l.initial.word l.word l.i l.change l.j

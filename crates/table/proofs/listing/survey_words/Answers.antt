@@ -8,7 +8,7 @@ use Rattle.table.proofs.listing.survey_words.Goals.{then-tried-counts, else-trie
 
 pub loop-number-init : goal.loop-number-init
 loop-number-init g c =
-    let s : Generator = generator g.S.Alphabet.size g.S.Alphabet.plus g.S.Alphabet.times c.args.k c.args.m c.args.rows.now in
+    let s : Generator = generator g.S.Alphabet.Q g.S.Alphabet.plus g.S.Alphabet.times c.args.k c.args.m c.args.rows.now in
     begun s g.met.S.Alphabet.ring c.args.received.now c.fill.new.self c.fill-2.new.self c.in_ok-counts.counts
     (c.fill.ensures.after (λ y e. e) ∙ ap (λ j. replicate j 0) c.requires.word)
     (c.fill-2.ensures.after (λ y e. e) ∙ ap (λ j. replicate j 0) c.requires.nearest)
@@ -16,7 +16,7 @@ loop-number-init g c =
 
 pub loop-number-preserved : goal.loop-number-preserved
 loop-number-preserved g c =
-    let s : Generator = generator g.S.Alphabet.size g.S.Alphabet.plus g.S.Alphabet.times c.args.k c.args.m c.args.rows.now in
+    let s : Generator = generator g.S.Alphabet.Q g.S.Alphabet.plus g.S.Alphabet.times c.args.k c.args.m c.args.rows.now in
     let ring = g.met.S.Alphabet.ring in
     let r : List ℕ = c.args.received.now in
     let next : List ℕ = c.advance.new.word in
@@ -44,7 +44,7 @@ loop-number-preserved g c =
 
 pub returns : goal.returns
 returns g c =
-    let s : Generator = generator g.S.Alphabet.size g.S.Alphabet.plus g.S.Alphabet.times c.args.k c.args.m c.args.rows.now in
+    let s : Generator = generator g.S.Alphabet.Q g.S.Alphabet.plus g.S.Alphabet.times c.args.k c.args.m c.args.rows.now in
     let total : c.message_count-number-end.result ≡ s.q ^ s.k = c.message_count-number-end.ensures ∙ capped_is s.q s.k c.requires.listable in
     let some : 1 ≤ s.q ^ s.k = pow_some s.q s.k (omega (arith, g.met.S.Alphabet.ring.low)) in
     surveyed s g.met.S.Alphabet.ring c.args.received.now c.loop-number.word c.loop-number.nearest c.loop-number.number c.loop-number.distance c.loop-number.counts

@@ -16,9 +16,9 @@ bounds-rows-i g c = omega (arith, digits_lt c.loop-i-test.true c.requires.inside
 
 pub loop-i-preserved : goal.loop-i-preserved
 loop-i-preserved g c =
-    let s = generator g.S.Alphabet.size g.S.Alphabet.plus g.S.Alphabet.times c.args.k c.args.m c.args.rows.now in
+    let s = generator g.S.Alphabet.Q g.S.Alphabet.plus g.S.Alphabet.times c.args.k c.args.m c.args.rows.now in
     added_more g.met.S.Alphabet.ring (λ i. g.S.Alphabet.times (get_or c.args.cells.now i 0) (coefficient s i c.args.j))
     c.loop-i.i c.loop-i.sum (get_or c.args.cells.now c.loop-i.i 0) (coefficient s c.loop-i.i c.args.j)
     c.multiply.result c.add-sum.result
     c.loop-i.invariant.0 c.loop-i.invariant.1 (c.requires.symbols c.loop-i.i c.loop-i-test.true)
-    (mod_below _ g.S.Alphabet.size (zero_in g.met.S.Alphabet.ring)) refl c.multiply.ensures c.add-sum.ensures
+    (mod_below _ g.S.Alphabet.Q (zero_in g.met.S.Alphabet.ring)) refl c.multiply.ensures c.add-sum.ensures

@@ -6,7 +6,7 @@ use Rattle.table.proofs.words.finish_word.Goals as goal
 
 pub loop-j-preserved : goal.loop-j-preserved
 loop-j-preserved g c =
-    let s = generator g.S.Alphabet.size g.S.Alphabet.plus g.S.Alphabet.times c.args.k c.args.m c.args.rows.now in
+    let s = generator g.S.Alphabet.Q g.S.Alphabet.plus g.S.Alphabet.times c.args.k c.args.m c.args.rows.now in
     let x : ℕ → ℕ = λ i. get_or c.args.cells.now i 0 in
     put_check c.loop-j.cells c.args.cells.now c.args.k c.loop-j.j c.check_symbol.result (check s x) (omega (arith, c.requires.long, c.loop-j.auto.cells))
     c.loop-j.invariant.0 c.loop-j.invariant.1

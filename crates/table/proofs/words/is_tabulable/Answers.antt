@@ -4,7 +4,7 @@ use Rattle.table.proofs.words.is_tabulable.Goals as goal
 
 pub returns-then-m-le-MAX_CHECKS : goal.returns-then-m-le-MAX_CHECKS
 returns-then-m-le-MAX_CHECKS g c =
-    let q : ℕ = g.S.Alphabet.size in
+    let q : ℕ = g.S.Alphabet.Q in
     let h1 : 1 ≤ c.args.k = omega arith in
     let h2 : c.args.k ≤ 8 = omega arith in
     let h3 : 1 ≤ c.args.m = omega arith in

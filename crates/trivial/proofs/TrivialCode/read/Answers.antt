@@ -7,9 +7,9 @@ pub returns : goal.returns
 returns g c =
     let r : List ℕ = c.args.received.now in
     let a : List ℕ = c.args.answer.now in
-    reads_passed {a' = set a 0 0} c.size.ensures
+    reads_passed {a' = set a 0 0} c.Q.ensures
     c.in_ok-check_read.ensures.is c.in_ok-check_cells.ensures.is refl
-    (trivial_hit g.S.Alphabet.size r (set a 0 0)
+    (trivial_hit g.S.Alphabet.Q r (set a 0 0)
     (one_cell r c.in_ok-check_read.ensures.passed.0 ∙ ap (λ x. x ∷ []) c.if-received-ne0.false)
     (put_one a 0 c.in_ok-check_read.ensures.passed.1))
 
@@ -17,6 +17,6 @@ pub returns-then-received-ne0 : goal.returns-then-received-ne0
 returns-then-received-ne0 g c =
     let r : List ℕ = c.args.received.now in
     let a : List ℕ = c.args.answer.now in
-    reads_passed {a' = a} c.size.ensures
+    reads_passed {a' = a} c.Q.ensures
     c.in_ok-check_read.ensures.is c.in_ok-check_cells.ensures.is refl
-    (c.at.ensures, trivial_lost g.S.Alphabet.size r c.in_ok-check_read.ensures.passed.0 c.if-received-ne0.true, refl)
+    (c.at.ensures, trivial_lost g.S.Alphabet.Q r c.in_ok-check_read.ensures.passed.0 c.if-received-ne0.true, refl)

@@ -8,7 +8,7 @@ use Rattle.table.proofs.calls.TableCode.distance.Goals as goal
 pub returns-then-is_tabulable : goal.returns-then-is_tabulable
 returns-then-is_tabulable g c =
     let t = c.args.self.now in
-    let s : Generator = generator g.S.Alphabet.size g.S.Alphabet.plus g.S.Alphabet.times t.k t.m t.rows in
+    let s : Generator = generator g.S.Alphabet.Q g.S.Alphabet.plus g.S.Alphabet.times t.k t.m t.rows in
     let limits = c.if-is_tabulable.ensures.limits tt in
     let short = (tables_apart s g.met.S.Alphabet.ring limits.0).short in
     let small : c.least_weight.result ≤ 24 = omega (arith, c.least_weight.ensures.is, short, limits.1, limits.3) in

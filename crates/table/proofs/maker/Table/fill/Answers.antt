@@ -10,6 +10,6 @@ returns g c =
     let zero : n - 0 ≡ n = omega arith in
     let rest : drop (n - 0) (replicate 128 0) ≡ replicate (128 - n) 0 = ap (λ j. drop j (replicate 128 0)) zero ∙ drop-replicate n 128 0 in
     record {
-      is = fillable_ok g.S.Alphabet.size c.args.k c.args.m cs c.size.result c.if-not-is_tabulable.ensures.is c.if-coefficients-k.false c.size.ensures c.in_ok-check_cells.ensures.is;
+      is = fillable_ok g.S.Alphabet.Q c.args.k c.args.m cs c.Q.result c.if-not-is_tabulable.ensures.is c.if-coefficients-k.false c.Q.ensures c.in_ok-check_cells.ensures.is;
       table = (refl, refl, ap₂ (λ (x : List ℕ) (y : List ℕ). x ++ y) c.copy_from_slice.ensures.after rest);
     }
