@@ -1,7 +1,7 @@
 // The repetition code: words of n equal symbols, n from 1 to 64.
 #![tactic(auto)]
 
-ghost use Rattle.std.specs.Prelude.{◌≡◌, ◌≤◌, true, false, T, Ok, Err};
+ghost use Rattle.std.specs.Prelude.{◌↔◌, IsTrue, EachIndex, slice_index, Some, None, ◌≡◌, ◌≤◌, true, false, T, Ok, Err};
 ghost use Rattle.code.specs.Calls.{Reads, Judges, Encodes, TakesOut};
 ghost use Rattle.code.specs.Refusals.{refusal};
 ghost use Rattle.code.specs.declared.refusals.Reason.TheVariants.{Unset};
@@ -33,6 +33,15 @@ pub struct Repetition<S> {
     pub symbols: PhantomData<S>,
 }
 
+// The same where n keeps its limits.
+#[derive(Drop)]
+struct Repeats<S> {
+    n: usize,
+    symbols: PhantomData<S>,
+    ghost low: { 1 ≤ n },
+    ghost high: { n ≤ 64 },
+}
+
 fn is_repeatable(n: usize) -> bool
     ensures is { result ≡ repeatable n }
     ensures limits { T result → (1 ≤ n) × (n ≤ 64) }
@@ -52,71 +61,74 @@ impl<S: Alphabet> Repetition<S> {
             symbols: PhantomData,
         })
     }
-}
 
-// A symbol costs less than n where it stands in more than half of the cells that could be read, so only the elected one is counted.
-fn read_repeated<S: Alphabet>(
-    n: usize,
-    received: &[u16],
-    answer: &mut [u16],
-    work: &mut [u16],
-) -> Result<Counts, Refusal>
-    requires low { 1 ≤ n }
-    requires high { n ≤ 64 }
-    ensures { Reads (repeats S.Alphabet.Q n) received.now answer.old answer.new work.old work.new result }
-{
-    check_read(n, WORKING_CELLS, received, answer, work)?;
-    check_cells(received, S::Q, Content::Received)?;
-    let symbol = votes::elect(received);
-    let word = [symbol; MAX_REPEATS];
-    let counts = count(received, &word[0..n])?;
-    if 2 * counts.wrong + counts.blank >= n {
-        return Err(Reason::Lost.at(0));
-    }
-    answer.fill(symbol);
-    Ok(counts)
-}
-
-fn judge_repeated<S: Alphabet>(n: usize, cells: &[u16], work: &mut [u16]) -> Result<bool, Refusal>
-    requires low { 1 ≤ n }
-    requires high { n ≤ 64 }
-    ensures { Judges (repeats S.Alphabet.Q n) cells.now work.old work.new result }
-{
-    check_lawful(n, WORKING_CELLS, cells, work)?;
-    check_cells(cells, S::Q, Content::Word)?;
-    for cell in cells {
-        if *cell != cells[0] {
-            return Ok(false);
+    fn proper(&self) -> Option<Repeats<S>>
+        ensures { elim result [ Some c ↦ (repeatable self.now.n ≡ true) × (c.n ≡ self.now.n) | None ↦ repeatable self.now.n ≡ false ] }
+    {
+        if !is_repeatable(self.n) {
+            return None;
         }
+        Some(Repeats {
+            n: self.n,
+            symbols: PhantomData,
+        })
     }
-    Ok(true)
 }
 
-fn encode_repeated<S: Alphabet>(
-    n: usize,
-    message: &[u16],
-    answer: &mut [u16],
-    work: &mut [u16],
-) -> Result<(), Refusal>
-    requires low { 1 ≤ n }
-    requires high { n ≤ 64 }
-    ensures { Encodes (repeats S.Alphabet.Q n) first message.now answer.old answer.new work.old work.new result }
-{
-    check_encode(n, 1, WORKING_CELLS, message, answer, work)?;
-    check_cells(message, S::Q, Content::Word)?;
-    answer.fill(message[0]);
-    Ok(())
+impl<S: Alphabet> Repeats<S> {
+    // A symbol costs less than n where it stands in more than half of the cells that could be read, so only the elected one is counted.
+    fn read(
+        &self,
+        received: &[u16],
+        answer: &mut [u16],
+        work: &mut [u16],
+    ) -> Result<Counts, Refusal>
+        ensures { Reads (repeats S.Alphabet.Q self.now.n) received.now answer.old answer.new work.old work.new result }
+    {
+        check_read(self.n, WORKING_CELLS, received, answer, work)?;
+        check_cells(received, S::Q, Content::Received)?;
+        let symbol = votes::elect(received);
+        let word = [symbol; MAX_REPEATS];
+        let counts = count(received, &word[0..self.n])?;
+        if 2 * counts.wrong + counts.blank >= self.n {
+            return Err(Reason::Lost.at(0));
+        }
+        answer.fill(symbol);
+        Ok(counts)
+    }
+
+    fn lawful(&self, cells: &[u16], work: &mut [u16]) -> Result<bool, Refusal>
+        ensures { Judges (repeats S.Alphabet.Q self.now.n) cells.now work.old work.new result }
+    {
+        check_lawful(self.n, WORKING_CELLS, cells, work)?;
+        check_cells(cells, S::Q, Content::Word)?;
+        Ok(holds_only(cells, cells[0]))
+    }
+
+    fn encode(&self, message: &[u16], answer: &mut [u16], work: &mut [u16]) -> Result<(), Refusal>
+        ensures { Encodes (repeats S.Alphabet.Q self.now.n) first message.now answer.old answer.new work.old work.new result }
+    {
+        check_encode(self.n, 1, WORKING_CELLS, message, answer, work)?;
+        check_cells(message, S::Q, Content::Word)?;
+        answer.fill(message[0]);
+        Ok(())
+    }
+
+    fn take_out(&self, word: &[u16], answer: &mut [u16]) -> Result<(), Refusal>
+        ensures { TakesOut (repeats S.Alphabet.Q self.now.n) first word.now answer.old answer.new result }
+    {
+        check_take_out(self.n, 1, WORKING_CELLS, word, answer)?;
+        check_cells(word, S::Q, Content::Word)?;
+        answer[0] = word[0];
+        Ok(())
+    }
 }
 
-fn take_repeated<S: Alphabet>(n: usize, word: &[u16], answer: &mut [u16]) -> Result<(), Refusal>
-    requires low { 1 ≤ n }
-    requires high { n ≤ 64 }
-    ensures { TakesOut (repeats S.Alphabet.Q n) first word.now answer.old answer.new result }
+// Whether each of the cells holds the symbol.
+fn holds_only(cells: &[u16], symbol: u16) -> bool
+    ensures { IsTrue result ↔ EachIndex cells.now (λ i. slice_index cells.now i ≡ symbol) }
 {
-    check_take_out(n, 1, WORKING_CELLS, word, answer)?;
-    check_cells(word, S::Q, Content::Word)?;
-    answer[0] = word[0];
-    Ok(())
+    cells.iter().all(|cell| *cell == symbol)
 }
 
 impl<S: Alphabet> Code for Repetition<S> {
@@ -137,11 +149,11 @@ impl<S: Alphabet> Code for Repetition<S> {
     ghost symbols = { Prim.search rules };
 
     fn length(&self) -> usize {
-        if is_repeatable(self.n) { self.n } else { 1 }
+        self.proper().map_or(1, |code| code.n)
     }
 
     fn message_length(&self) -> usize {
-        if is_repeatable(self.n) { 1 } else { 0 }
+        self.proper().map_or(0, |_| 1)
     }
 
     // two different words differ everywhere
@@ -154,11 +166,7 @@ impl<S: Alphabet> Code for Repetition<S> {
     }
 
     fn message_place(&self, i: usize) -> Option<usize> {
-        if is_repeatable(self.n) && i == 0 {
-            Some(0)
-        } else {
-            None
-        }
+        (is_repeatable(self.n) && i == 0).then_some(0)
     }
 
     fn read(
@@ -167,34 +175,30 @@ impl<S: Alphabet> Code for Repetition<S> {
         answer: &mut [u16],
         work: &mut [u16],
     ) -> Result<Counts, Refusal> {
-        if is_repeatable(self.n) {
-            read_repeated::<S>(self.n, received, answer, work)
-        } else {
-            Trivial::<S>::CODE.read(received, answer, work)
+        match self.proper() {
+            Some(code) => code.read(received, answer, work),
+            None => Trivial::<S>::CODE.read(received, answer, work),
         }
     }
 
     fn lawful(&self, cells: &[u16], work: &mut [u16]) -> Result<bool, Refusal> {
-        if is_repeatable(self.n) {
-            judge_repeated::<S>(self.n, cells, work)
-        } else {
-            Trivial::<S>::CODE.lawful(cells, work)
+        match self.proper() {
+            Some(code) => code.lawful(cells, work),
+            None => Trivial::<S>::CODE.lawful(cells, work),
         }
     }
 
     fn encode(&self, message: &[u16], answer: &mut [u16], work: &mut [u16]) -> Result<(), Refusal> {
-        if is_repeatable(self.n) {
-            encode_repeated::<S>(self.n, message, answer, work)
-        } else {
-            Trivial::<S>::CODE.encode(message, answer, work)
+        match self.proper() {
+            Some(code) => code.encode(message, answer, work),
+            None => Trivial::<S>::CODE.encode(message, answer, work),
         }
     }
 
     fn take_out(&self, word: &[u16], answer: &mut [u16]) -> Result<(), Refusal> {
-        if is_repeatable(self.n) {
-            take_repeated::<S>(self.n, word, answer)
-        } else {
-            Trivial::<S>::CODE.take_out(word, answer)
+        match self.proper() {
+            Some(code) => code.take_out(word, answer),
+            None => Trivial::<S>::CODE.take_out(word, answer),
         }
     }
 }

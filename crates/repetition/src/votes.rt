@@ -6,35 +6,38 @@ ghost use Rattle.repetition.specs.Votes.{Led};
 
 use code::BLANK;
 
-#[derive(Clone, Copy)]
+#[derive(Clone, Copy, Default)]
 pub(crate) struct Vote {
     candidate: u16,
     lead: usize,
 }
 
-// The vote after one cell more.
-fn cast(vote: Vote, cell: u16) -> Vote
-    requires { vote.lead + 1 < 2 ^ 64 }
-    ensures leads { (v i p : ℕ) → Led vote v i p → Led result v (i + 1) (p + price cell v) }
-    ensures slow { result.lead ≤ vote.lead + 1 }
-    ensures symbol { (q : ℕ) → vote.candidate < q → good Received q cell ≡ true → result.candidate < q }
-{
-    if cell == BLANK {
-        vote
-    } else if cell == vote.candidate {
-        Vote {
-            candidate: cell,
-            lead: vote.lead + 1,
-        }
-    } else if vote.lead == 0 {
-        Vote {
-            candidate: cell,
-            lead: 1,
-        }
-    } else {
-        Vote {
-            candidate: vote.candidate,
-            lead: vote.lead - 1,
+impl Vote {
+    // The vote after one cell more.
+    #[tactic(auto, unfolding(code::specs::Cells::price))]
+    fn cast(self, cell: u16) -> Vote
+        requires { self.lead + 1 < 2 ^ 64 }
+        ensures leads { (v i p : ℕ) → Led self v i p → Led result v (i + 1) (p + price cell v) }
+        ensures slow { result.lead ≤ self.lead + 1 }
+        ensures symbol { (q : ℕ) → self.candidate < q → good Received q cell ≡ true → result.candidate < q }
+    {
+        if cell == BLANK {
+            self
+        } else if cell == self.candidate {
+            Vote {
+                lead: self.lead + 1,
+                ..self
+            }
+        } else if self.lead == 0 {
+            Vote {
+                candidate: cell,
+                lead: 1,
+            }
+        } else {
+            Vote {
+                lead: self.lead - 1,
+                ..self
+            }
         }
     }
 }
@@ -44,12 +47,9 @@ pub(crate) fn elect(received: &[u16]) -> u16
     ensures others { (v : ℕ) → v ≢ result → length received.now ≤ cost received.now (replicate (length received.now) v) }
     ensures symbol { (q : ℕ) → 0 < q → ((i : ℕ) → i < length received.now → good Received q (slice_index received.now i) ≡ true) → result < q }
 {
-    let mut vote = Vote {
-        candidate: 0,
-        lead: 0,
-    };
+    let mut vote = Vote::default();
     for cell in received {
-        vote = cast(vote, *cell);
+        vote = vote.cast(*cell);
     }
     vote.candidate
 }

@@ -4,32 +4,25 @@ use Rattle.std.proofs.lemmas.List.{get_or_append_left}
 use Rattle.std.proofs.lemmas.Bool.Decides.{nat_tests}
 use Rattle.alphabet.specs.Rings.{Ring}
 use Rattle.alphabet.specs.Sums.{added}
-use Rattle.alphabet.proofs.Additions.{added_same, added_closed}
-use Rattle.code.specs.Cells.{blank, good}
+use Rattle.alphabet.proofs.Additions.{added_closed}
+use Rattle.code.specs.Cells.{good}
 use Rattle.code.specs.Codes.{Message, Carries}
 use Rattle.code.specs.declared.cells.Content.TheVariants.{Word}
 use Rattle.sum.specs.Balance.{Balanced, but_last}
-use Rattle.sum.specs.Scans.{shown}
 use Rattle.sum.specs.BalanceLemmas.{completed}
 
-symbol : (q x : ℕ) → q ≤ blank → good Word q x ≡ true → (x < q) × (shown x ≡ x)
-symbol q x few h = (grind (arith, nat_tests), grind (arith, nat_tests))
+symbol : (q x : ℕ) → good Word q x ≡ true → x < q
+symbol q x h = grind (arith, nat_tests)
 
 module _ {q : ℕ} {add : ℕ → ℕ → ℕ} {neg : ℕ → ℕ} {mul : ℕ → ℕ → ℕ} (ring : Ring q add neg mul) (n : ℕ) (long : 2 ≤ n)
     (m : List ℕ) (sized : length m ≡ n - 1) (clean : (i : ℕ) → i < length m → good Word q (get_or m i 0) ≡ true) where
-  few : q ≤ blank
-  few = omega (arith, ring.high)
-
   message : Message q (n - 1) m
-  message = record { sized = sized; symbols = λ i l. (symbol q (get_or m i 0) few (clean i (omega arith))).0 }
+  message = record { sized = sized; symbols = λ i l. symbol q (get_or m i 0) (clean i (omega arith)) }
 
-  -- t is the message's sum as a scan has it, and v its negative
-  module _ (t v : ℕ) (total : t ≡ added add (length m) (λ i. shown (get_or m i 0))) (negative : v ≡ neg (t % q)) (rest : List ℕ) (room : length rest ≡ 1) where
+  -- t is the message's sum, and v its negative
+  module _ (t v : ℕ) (total : t ≡ added add (length m) (λ i. get_or m i 0)) (negative : v ≡ neg (t % q)) (rest : List ℕ) (room : length rest ≡ 1) where
     sum_is : t ≡ added add (n - 1) (λ i. get_or m i 0)
-    sum_is =
-        total
-        ∙ added_same add (length m) (λ i. shown (get_or m i 0)) (λ i. get_or m i 0) (λ i l. (symbol q (get_or m i 0) few (clean i l)).1)
-        ∙ ap (λ k. added add k (λ i. get_or m i 0)) sized
+    sum_is = total ∙ ap (λ k. added add k (λ i. get_or m i 0)) sized
 
     below : t < q
     below = rw sum_is (added_closed ring (n - 1) (λ i. get_or m i 0) message.symbols)

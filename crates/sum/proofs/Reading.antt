@@ -10,11 +10,10 @@ use Rattle.alphabet.proofs.Symbols.{zero_in, zero-add}
 use Rattle.code.specs.Cells.{blank, wrong, faint, wrongs, cost}
 use Rattle.code.specs.Calls.{Within, Beyond}
 use Rattle.code.proofs.Costs.{within}
-use Rattle.sum.specs.declared.scans.Scan.{Scan}
 use Rattle.sum.specs.Balance.{Balanced, balances}
-use Rattle.sum.specs.Scans.{shown, Scanned}
+use Rattle.sum.specs.Scans.{shown, Tally, Scanned}
 use Rattle.sum.specs.BalanceLemmas.{balances_apart}
-use Rattle.sum.proofs.Scanning.{Clean, each_below, total_below}
+use Rattle.sum.proofs.Scanning.{Clean, each_below, total_below, faint-one}
 
 -- one cell
 unfaint : (x : ℕ) → faint x ≡ 0 → (shown x ≡ x) × (x ≢ blank)
@@ -22,9 +21,6 @@ unfaint x e = (grind (arith, nat_tests), λ z. grind (arith, nat_tests))
 
 hidden : (x : ℕ) → x ≡ blank → shown x ≡ 0
 hidden x e = grind (arith, nat_tests)
-
-faint-one : (x : ℕ) → x ≡ blank → 1 ≤ faint x
-faint-one x e = grind (arith, nat_tests)
 
 plain : (x : ℕ) → x ≢ blank → shown x ≡ x
 plain x ne = grind (arith, nat_tests)
@@ -42,7 +38,7 @@ no_wrongs r w h =
     omega (arith, none, sum_constant (length r) 0)
 
 module _ {q : ℕ} {add : ℕ → ℕ → ℕ} {neg : ℕ → ℕ} {mul : ℕ → ℕ → ℕ} (ring : Ring q add neg mul) (n : ℕ) (long : 2 ≤ n)
-    (r : List ℕ) (sized : length r ≡ n) (clean : Clean q r) (s : Scan) (told : Scanned add r (length r) s) where
+    (r : List ℕ) (sized : length r ≡ n) (clean : Clean q r) (s : Tally) (told : Scanned add r (length r) s) where
   abbrev F : ℕ → ℕ
   F i = shown (get_or r i 0)
 

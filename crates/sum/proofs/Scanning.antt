@@ -1,15 +1,14 @@
 -- A scan goes on by one cell, a blank or a symbol. Assumes nothing.
-use Rattle.std.proofs.Common.{◌≡◌, ℕ, ◌+◌, ◌%◌, ◌<◌, ◌≤◌, true, ◌≢◌, List, length, get_or, sym, ap, ◌∙◌, ap₂, mod-eq_of_lt, add-one, arith}
+use Rattle.std.proofs.Common.{T, subst, Option, Some, None, is_some, false, lit<, ◌≡◌, ℕ, ◌+◌, ◌%◌, ◌<◌, ◌≤◌, true, ◌≢◌, List, length, get_or, sym, ap, ◌∙◌, ap₂, mod-eq_of_lt, add-one, arith}
 use Rattle.std.proofs.lemmas.Bool.Decides.{nat_tests}
 use Rattle.alphabet.specs.Rings.{Ring}
-use Rattle.alphabet.specs.Sums.{sum, added}
+use Rattle.alphabet.specs.Sums.{added}
 use Rattle.alphabet.proofs.Additions.{added_closed}
-use Rattle.alphabet.proofs.Sums.{sum_more, sum_same, sum_constant}
+use Rattle.alphabet.proofs.Sums.{sum_more, two_places}
 use Rattle.alphabet.proofs.Symbols.{zero_in}
-use Rattle.code.specs.Cells.{blank, faint, good}
+use Rattle.code.specs.Cells.{blank, faint, good, blanks}
 use Rattle.code.specs.declared.cells.Content.TheVariants.{Word, Received}
-use Rattle.sum.specs.declared.scans.Scan.{Scan}
-use Rattle.sum.specs.Scans.{shown, Scanned}
+use Rattle.sum.specs.Scans.{shown, Tally, tally, Scanned}
 
 -- received cells: symbols or blanks
 abbrev pub Clean : ℕ → List ℕ → Type 0
@@ -20,6 +19,9 @@ shown_below q x some h = grind (arith, nat_tests)
 
 shown-blank : (x : ℕ) → x ≡ blank → (shown x ≡ 0) × (faint x ≡ 1)
 shown-blank x e = (grind (arith, nat_tests), grind (arith, nat_tests))
+
+pub faint-one : (x : ℕ) → x ≡ blank → 1 ≤ faint x
+faint-one x e = omega (arith, (shown-blank x e).1)
 
 shown_symbol : (x : ℕ) → x ≢ blank → (shown x ≡ x) × (faint x ≡ 0)
 shown_symbol x e = (grind (arith, nat_tests), grind (arith, nat_tests))
@@ -34,7 +36,7 @@ module _ {q : ℕ} {add : ℕ → ℕ → ℕ} {neg : ℕ → ℕ} {mul : ℕ �
   added_more : (i : ℕ) (f : ℕ → ℕ) → added add (i + 1) f ≡ add (added add i f) (f i)
   added_more i f = ap (λ m. added add m f) (add-one i)
 
-  pub scan_blank : (i : ℕ) (s : Scan) → i < length r → Scanned add r i s → get_or r i 0 ≡ blank
+  pub scan_blank : (i : ℕ) (s : Tally) → i < length r → Scanned add r i s → get_or r i 0 ≡ blank
       → Scanned add r (i + 1) (record { total = s.total; blanks = s.blanks + 1; hole = i })
   scan_blank i s l h e =
       let f : ℕ → ℕ = λ j. shown (get_or r j 0) in
@@ -49,7 +51,7 @@ module _ {q : ℕ} {add : ℕ → ℕ → ℕ} {neg : ℕ → ℕ} {mul : ℕ �
         hole = λ some. e;
       }
 
-  pub scan_symbol : (i t : ℕ) (s : Scan) → i < length r → Scanned add r i s → get_or r i 0 ≢ blank → t ≡ add (s.total % q) (get_or r i 0 % q)
+  pub scan_symbol : (i t : ℕ) (s : Tally) → i < length r → Scanned add r i s → get_or r i 0 ≢ blank → t ≡ add (s.total % q) (get_or r i 0 % q)
       → Scanned add r (i + 1) (record { total = t; blanks = s.blanks; hole = s.hole })
   scan_symbol i t s l h ne sum_is_lem =
       let f : ℕ → ℕ = λ j. shown (get_or r j 0) in
@@ -63,14 +65,33 @@ module _ {q : ℕ} {add : ℕ → ℕ → ℕ} {neg : ℕ → ℕ} {mul : ℕ �
         hole = h.hole;
       }
 
+  -- the first blank is the hole
+  pub first_blank : (i t : ℕ) (h : Option ℕ) → is_some h ≡ false → i < length r → Scanned add r i (tally (record { total = t; hole = h })) → get_or r i 0 ≡ blank
+      → Scanned add r (i + 1) (tally (record { total = t; hole = Some i }))
+  first_blank i t (Some h) none l s e = absurd (subst T none tt)
+  first_blank i t None none l s e = scan_blank i (tally (record { total = t; hole = None })) l s e
+
+  -- and a second one makes two
+  pub second_blank : (i t : ℕ) (h : Option ℕ) → is_some h ≡ true → i < length r → Scanned add r i (tally (record { total = t; hole = h })) → get_or r i 0 ≡ blank → 2 ≤ blanks r
+  second_blank i t None some l s e = absurd (subst T (sym some) tt)
+  second_blank i t (Some h) some l s e =
+      let there : h < i = s.inside (lit< tt) in
+      omega (arith, two_places (length r) (λ j. faint (get_or r j 0)) i h l (omega arith) (λ z. omega arith) (faint-one (get_or r i 0) e) (faint-one (get_or r h 0) (s.hole (lit< tt))))
+
 -- ---- cells that hold symbols only
-tame : (q x : ℕ) → q ≤ blank → good Word q x ≡ true → (good Received q x ≡ true) × (faint x ≡ 0)
-tame q x few h = (grind (arith, nat_tests), grind (arith, nat_tests))
+module _ {q : ℕ} {add : ℕ → ℕ → ℕ} {neg : ℕ → ℕ} {mul : ℕ → ℕ → ℕ} (ring : Ring q add neg mul) (r : List ℕ)
+    (words : (i : ℕ) → i < length r → good Word q (get_or r i 0) ≡ true) where
+  symbol_below : (i : ℕ) → i < length r → get_or r i 0 < q
+  symbol_below i l = let e = words i l in grind (arith, nat_tests)
 
-pub word-clean : (q : ℕ) (r : List ℕ) → q ≤ blank → ((i : ℕ) → i < length r → good Word q (get_or r i 0) ≡ true) → Clean q r
-word-clean q r few h i l = (tame q (get_or r i 0) few (h i l)).0
+  -- one symbol more is added up
+  pub add_more : (i t x : ℕ) → i < length r → t ≡ added add i (λ j. get_or r j 0) → x ≡ add (t % q) (get_or r i 0 % q)
+      → x ≡ added add (i + 1) (λ j. get_or r j 0)
+  add_more i t x l e ex =
+      let f : ℕ → ℕ = λ j. get_or r j 0 in
+      let low : t < q = rw e (added_closed ring i f (λ j m. symbol_below j (omega arith))) in
+      ex ∙ ap₂ add (mod-eq_of_lt low ∙ e) (mod-eq_of_lt (symbol_below i l)) ∙ sym (ap (λ m. added add m f) (add-one i))
 
-pub no_blanks : (q : ℕ) (r : List ℕ) → q ≤ blank → ((i : ℕ) → i < length r → good Word q (get_or r i 0) ≡ true) → sum (length r) (λ i. faint (get_or r i 0)) ≡ 0
-no_blanks q r few h =
-    let none = sum_same (length r) (λ i. faint (get_or r i 0)) (λ i. 0) (λ i l. (tame q (get_or r i 0) few (h i l)).1) in
-    omega (arith, none, sum_constant (length r) 0)
+-- what a scan says, where its hole is known
+pub at_hole : (add : ℕ → ℕ → ℕ) (r : List ℕ) (n t : ℕ) (h h' : Option ℕ) → h ≡ h' → Scanned add r n (tally (record { total = t; hole = h })) → Scanned add r n (tally (record { total = t; hole = h' }))
+at_hole add r n t h h' e told = subst (λ (o : Option ℕ). Scanned add r n (tally (record { total = t; hole = o }))) e told

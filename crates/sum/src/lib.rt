@@ -1,7 +1,7 @@
 // The sum code: words of n symbols that add up to 0, n from 2 to 64.
 #![tactic(auto)]
 
-ghost use Rattle.std.specs.Prelude.{◌≡◌, ◌≤◌, true, false, T, Ok, Err};
+ghost use Rattle.std.specs.Prelude.{Some, None, ◌≡◌, ◌≤◌, true, false, T, Ok, Err};
 ghost use Rattle.code.specs.Calls.{Reads, Judges, Encodes, TakesOut};
 ghost use Rattle.code.specs.Refusals.{refusal};
 ghost use Rattle.code.specs.declared.refusals.Reason.TheVariants.{Unset};
@@ -17,7 +17,7 @@ use code::{
     Code, Content, Counts, Reason, Refusal, check_cells, check_encode, check_lawful, check_read,
     check_take_out,
 };
-use scans::scan_cells;
+use scans::{add_symbols, scan_cells};
 use std::marker::PhantomData;
 use trivial::Trivial;
 
@@ -32,6 +32,15 @@ const WORKING_CELLS: usize = 0;
 pub struct Sum<S> {
     pub n: usize,
     pub symbols: PhantomData<S>,
+}
+
+// The same where n keeps its limits.
+#[derive(Drop)]
+struct Balances<S> {
+    n: usize,
+    symbols: PhantomData<S>,
+    ghost low: { 2 ≤ n },
+    ghost high: { n ≤ 64 },
 }
 
 fn is_summable(n: usize) -> bool
@@ -53,73 +62,77 @@ impl<S: Alphabet> Sum<S> {
             symbols: PhantomData,
         })
     }
-}
 
-// The distance is 2: a word comes back where nothing is wrong and at most one cell is blank, whose symbol the others tell.
-fn read_balanced<S: Alphabet>(
-    n: usize,
-    received: &[u16],
-    answer: &mut [u16],
-    work: &mut [u16],
-) -> Result<Counts, Refusal>
-    requires low { 2 ≤ n }
-    requires high { n ≤ 64 }
-    ensures { Reads (balances S.Alphabet.plus S.Alphabet.Q n) received.now answer.old answer.new work.old work.new result }
-{
-    check_read(n, WORKING_CELLS, received, answer, work)?;
-    check_cells(received, S::Q, Content::Received)?;
-    let scan = scan_cells::<S>(received);
-    if scan.blanks > 1 {
-        return Err(Reason::Lost.at(0));
+    fn proper(&self) -> Option<Balances<S>>
+        ensures { elim result [ Some c ↦ (summable self.now.n ≡ true) × (c.n ≡ self.now.n) | None ↦ summable self.now.n ≡ false ] }
+    {
+        if !is_summable(self.n) {
+            return None;
+        }
+        Some(Balances {
+            n: self.n,
+            symbols: PhantomData,
+        })
     }
-    if scan.blanks == 1 {
-        answer.copy_from_slice(received);
-        answer[scan.hole] = S::negate(scan.total);
-        return Ok(Counts { wrong: 0, blank: 1 });
+}
+
+impl<S: Alphabet> Balances<S> {
+    // The distance is 2: a word comes back where nothing is wrong and at most one cell is blank, whose symbol the others tell.
+    fn read(
+        &self,
+        received: &[u16],
+        answer: &mut [u16],
+        work: &mut [u16],
+    ) -> Result<Counts, Refusal>
+        ensures { Reads (balances S.Alphabet.plus S.Alphabet.Q self.now.n) received.now answer.old answer.new work.old work.new result }
+    {
+        check_read(self.n, WORKING_CELLS, received, answer, work)?;
+        check_cells(received, S::Q, Content::Received)?;
+        let Some(scan) = scan_cells::<S>(received) else {
+            return Err(Reason::Lost.at(0));
+        };
+        match scan.hole {
+            Some(hole) => {
+                answer.copy_from_slice(received);
+                answer[hole] = S::negate(scan.total);
+                Ok(Counts { wrong: 0, blank: 1 })
+            }
+            None if scan.total == 0 => {
+                answer.copy_from_slice(received);
+                Ok(Counts { wrong: 0, blank: 0 })
+            }
+            None => Err(Reason::Lost.at(0)),
+        }
     }
-    if scan.total != 0 {
-        return Err(Reason::Lost.at(0));
+
+    fn lawful(&self, cells: &[u16], work: &mut [u16]) -> Result<bool, Refusal>
+        ensures { Judges (balances S.Alphabet.plus S.Alphabet.Q self.now.n) cells.now work.old work.new result }
+    {
+        check_lawful(self.n, WORKING_CELLS, cells, work)?;
+        check_cells(cells, S::Q, Content::Word)?;
+        Ok(add_symbols::<S>(cells) == 0)
     }
-    answer.copy_from_slice(received);
-    Ok(Counts { wrong: 0, blank: 0 })
-}
 
-fn judge_balanced<S: Alphabet>(n: usize, cells: &[u16], work: &mut [u16]) -> Result<bool, Refusal>
-    requires low { 2 ≤ n }
-    requires high { n ≤ 64 }
-    ensures { Judges (balances S.Alphabet.plus S.Alphabet.Q n) cells.now work.old work.new result }
-{
-    check_lawful(n, WORKING_CELLS, cells, work)?;
-    check_cells(cells, S::Q, Content::Word)?;
-    Ok(scan_cells::<S>(cells).total == 0)
-}
+    fn encode(&self, message: &[u16], answer: &mut [u16], work: &mut [u16]) -> Result<(), Refusal>
+        ensures { Encodes (balances S.Alphabet.plus S.Alphabet.Q self.now.n) (but_last self.now.n) message.now answer.old answer.new work.old work.new result }
+    {
+        let k = self.n - 1;
+        check_encode(self.n, k, WORKING_CELLS, message, answer, work)?;
+        check_cells(message, S::Q, Content::Word)?;
+        answer[0..k].copy_from_slice(message);
+        answer[k] = S::negate(add_symbols::<S>(message));
+        Ok(())
+    }
 
-fn encode_balanced<S: Alphabet>(
-    n: usize,
-    message: &[u16],
-    answer: &mut [u16],
-    work: &mut [u16],
-) -> Result<(), Refusal>
-    requires low { 2 ≤ n }
-    requires high { n ≤ 64 }
-    ensures { Encodes (balances S.Alphabet.plus S.Alphabet.Q n) (but_last n) message.now answer.old answer.new work.old work.new result }
-{
-    check_encode(n, n - 1, WORKING_CELLS, message, answer, work)?;
-    check_cells(message, S::Q, Content::Word)?;
-    answer[0..n - 1].copy_from_slice(message);
-    answer[n - 1] = S::negate(scan_cells::<S>(message).total);
-    Ok(())
-}
-
-fn take_balanced<S: Alphabet>(n: usize, word: &[u16], answer: &mut [u16]) -> Result<(), Refusal>
-    requires low { 2 ≤ n }
-    requires high { n ≤ 64 }
-    ensures { TakesOut (balances S.Alphabet.plus S.Alphabet.Q n) (but_last n) word.now answer.old answer.new result }
-{
-    check_take_out(n, n - 1, WORKING_CELLS, word, answer)?;
-    check_cells(word, S::Q, Content::Word)?;
-    answer.copy_from_slice(&word[0..n - 1]);
-    Ok(())
+    fn take_out(&self, word: &[u16], answer: &mut [u16]) -> Result<(), Refusal>
+        ensures { TakesOut (balances S.Alphabet.plus S.Alphabet.Q self.now.n) (but_last self.now.n) word.now answer.old answer.new result }
+    {
+        let k = self.n - 1;
+        check_take_out(self.n, k, WORKING_CELLS, word, answer)?;
+        check_cells(word, S::Q, Content::Word)?;
+        answer.copy_from_slice(&word[0..k]);
+        Ok(())
+    }
 }
 
 impl<S: Alphabet> Code for Sum<S> {
@@ -140,15 +153,15 @@ impl<S: Alphabet> Code for Sum<S> {
     ghost symbols = { Prim.search rules };
 
     fn length(&self) -> usize {
-        if is_summable(self.n) { self.n } else { 1 }
+        self.proper().map_or(1, |code| code.n)
     }
 
     fn message_length(&self) -> usize {
-        if is_summable(self.n) { self.n - 1 } else { 0 }
+        self.proper().map_or(0, |code| code.n - 1)
     }
 
     fn distance(&self) -> usize {
-        if is_summable(self.n) { 2 } else { 1 }
+        self.proper().map_or(1, |_| 2)
     }
 
     fn working_cells(&self) -> usize {
@@ -156,11 +169,7 @@ impl<S: Alphabet> Code for Sum<S> {
     }
 
     fn message_place(&self, i: usize) -> Option<usize> {
-        if is_summable(self.n) && i < self.n - 1 {
-            Some(i)
-        } else {
-            None
-        }
+        (i < self.message_length()).then_some(i)
     }
 
     fn read(
@@ -169,34 +178,30 @@ impl<S: Alphabet> Code for Sum<S> {
         answer: &mut [u16],
         work: &mut [u16],
     ) -> Result<Counts, Refusal> {
-        if is_summable(self.n) {
-            read_balanced::<S>(self.n, received, answer, work)
-        } else {
-            Trivial::<S>::CODE.read(received, answer, work)
+        match self.proper() {
+            Some(code) => code.read(received, answer, work),
+            None => Trivial::<S>::CODE.read(received, answer, work),
         }
     }
 
     fn lawful(&self, cells: &[u16], work: &mut [u16]) -> Result<bool, Refusal> {
-        if is_summable(self.n) {
-            judge_balanced::<S>(self.n, cells, work)
-        } else {
-            Trivial::<S>::CODE.lawful(cells, work)
+        match self.proper() {
+            Some(code) => code.lawful(cells, work),
+            None => Trivial::<S>::CODE.lawful(cells, work),
         }
     }
 
     fn encode(&self, message: &[u16], answer: &mut [u16], work: &mut [u16]) -> Result<(), Refusal> {
-        if is_summable(self.n) {
-            encode_balanced::<S>(self.n, message, answer, work)
-        } else {
-            Trivial::<S>::CODE.encode(message, answer, work)
+        match self.proper() {
+            Some(code) => code.encode(message, answer, work),
+            None => Trivial::<S>::CODE.encode(message, answer, work),
         }
     }
 
     fn take_out(&self, word: &[u16], answer: &mut [u16]) -> Result<(), Refusal> {
-        if is_summable(self.n) {
-            take_balanced::<S>(self.n, word, answer)
-        } else {
-            Trivial::<S>::CODE.take_out(word, answer)
+        match self.proper() {
+            Some(code) => code.take_out(word, answer),
+            None => Trivial::<S>::CODE.take_out(word, answer),
         }
     }
 }

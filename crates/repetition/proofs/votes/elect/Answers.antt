@@ -14,18 +14,13 @@ loop-cell-preserved c = (
   λ q some each. c.cast-vote.ensures.symbol q (c.loop-cell.invariant.2 q some each) (each c.loop-cell.cell-index (omega arith)),
 )
 
-pub returns : goal.returns
-returns c =
+pub returns-clause-others : goal.returns-clause-others
+returns-clause-others c v ne =
     let r : List ℕ = c.args.received.now in
     let n : ℕ = length r in
-    let row : (v : ℕ) → cost r (replicate n v) ≡ sum n (λ k. price (get_or r k 0) v) =
-    λ v. cost_is r (replicate n v) ∙ sum_same n _ _ (λ k l. ap (price (get_or r k 0)) (get_or-replicate n k v 0 l)) in
-    record {
-      others = λ v ne.
-          let led = c.loop-cell.invariant.1 v in
-          let whole : c.loop-cell.cell-index ≡ n = omega arith in
-          let same = ap (λ i. sum i (λ k. price (get_or r k 0) v)) whole in
-          let e = row v in
-          grind (arith, nat_tests);
-      symbol = c.loop-cell.invariant.2;
-    }
+    let row : cost r (replicate n v) ≡ sum n (λ k. price (get_or r k 0) v) =
+    cost_is r (replicate n v) ∙ sum_same n _ _ (λ k l. ap (price (get_or r k 0)) (get_or-replicate n k v 0 l)) in
+    let led = c.loop-cell.invariant.1 v in
+    let whole : c.loop-cell.cell-index ≡ n = omega arith in
+    let same = ap (λ i. sum i (λ k. price (get_or r k 0) v)) whole in
+    grind (arith, nat_tests)

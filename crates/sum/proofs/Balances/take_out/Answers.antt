@@ -2,12 +2,12 @@ use Rattle.std.proofs.Common.{◌≡◌, ℕ, ◌-◌, List, get_or, take, ap, �
 use Rattle.std.proofs.lemmas.List.{get_or-take}
 use Rattle.code.proofs.Checks.{takes_passed}
 use Rattle.code.proofs.Rows.{is_listed}
-use Rattle.sum.proofs.take_balanced.Goals as goal
+use Rattle.sum.proofs.Balances.take_out.Goals as goal
 
 pub returns : goal.returns
 returns g c =
     let w : List ℕ = c.args.word.now in
-    let k : ℕ = c.args.n - 1 in
+    let k : ℕ = c.args.self.now.n - 1 in
     let fit = c.in_ok-check_take_out.ensures.passed in
     let a : List ℕ = c.copy_from_slice.new.self in
     let copied : a ≡ take (k - 0) w = c.copy_from_slice.ensures.after in

@@ -6,18 +6,18 @@ use Rattle.code.proofs.Costs.{within}
 use Rattle.alphabet.proofs.Symbols.{zero_in}
 use Rattle.repetition.specs.Repeats.{repeats}
 use Rattle.repetition.specs.RepeatsLemmas.{repeats_apart, word, front, none_near}
-use Rattle.repetition.proofs.read_repeated.Goals as goal
+use Rattle.repetition.proofs.Repeats.read.Goals as goal
 
-pub returns-then-counts-n : goal.returns-then-counts-n
-returns-then-counts-n g c =
+pub returns-then-counts-self : goal.returns-then-counts-self
+returns-then-counts-self g c =
     let r : List ℕ = c.args.received.now in
-    let n : ℕ = c.args.n in
+    let n : ℕ = c.args.self.now.n in
     let v : ℕ = c.elect-symbol.result in
     let long : length r ≡ n = c.in_ok-check_read.ensures.passed.0 in
     let counted = c.in_ok-counts.ensures.is in
-    let wrong-is : c.in_ok-counts.counts.wrong ≡ wrongs r (replicate n v) = counted.1 ∙ ap (wrongs r) (front n 64 v c.requires.high) in
+    let wrong-is : c.in_ok-counts.counts.wrong ≡ wrongs r (replicate n v) = counted.1 ∙ ap (wrongs r) (front n 64 v c.args.self.now.high) in
     let blank-is : c.in_ok-counts.counts.blank ≡ blanks r = counted.2 in
-    let here : n ≤ cost r (replicate n v) = omega (arith, c.if-counts-n.true) in
+    let here : n ≤ cost r (replicate n v) = omega (arith, c.if-counts-self.true) in
     let others : (u : ℕ) → u ≢ v → n ≤ cost r (replicate n u) =
     λ u ne. subst (λ (m : ℕ). m ≤ cost r (replicate m u)) long (c.elect-symbol.ensures.others u ne) in
     reads_passed {a' = c.args.answer.now} c.Q.ensures
@@ -27,7 +27,7 @@ returns-then-counts-n g c =
 pub returns : goal.returns
 returns g c =
     let r : List ℕ = c.args.received.now in
-    let n : ℕ = c.args.n in
+    let n : ℕ = c.args.self.now.n in
     let q : ℕ = g.S.Alphabet.Q in
     let v : ℕ = c.elect-symbol.result in
     let fit = c.in_ok-check_read.ensures.passed in
@@ -36,9 +36,9 @@ returns g c =
     subst (λ (m : ℕ). v < m) c.Q.ensures
     (c.elect-symbol.ensures.symbol c.Q.result (omega (arith, zero_in g.met.S.Alphabet.ring, c.Q.ensures)) c.in_ok-check_cells.ensures.passed) in
     let near : Within (repeats q n) r (replicate n v) c.in_ok-counts.counts =
-    within (repeats q n) (repeats_apart q n c.requires.low) r fit.0 (replicate n v) c.in_ok-counts.counts
+    within (repeats q n) (repeats_apart q n c.args.self.now.low) r fit.0 (replicate n v) c.in_ok-counts.counts
     (word q n v below)
-    (counted.1 ∙ ap (wrongs r) (front n 64 v c.requires.high)) counted.2 c.if-counts-n.false in
+    (counted.1 ∙ ap (wrongs r) (front n 64 v c.args.self.now.high)) counted.2 c.if-counts-self.false in
     let filled : c.fill.new.self ≡ replicate n v = c.fill.ensures.after (λ y e. e) ∙ ap (λ m. replicate m v) fit.1 in
     reads_passed {a' = c.fill.new.self} c.Q.ensures
     c.in_ok-check_read.ensures.is c.in_ok-check_cells.ensures.is refl
