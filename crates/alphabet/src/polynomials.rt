@@ -7,7 +7,7 @@ ghost use Rattle.alphabet.specs.Field.{sixteen};
 use crate::Alphabet;
 
 // The four bits of a symbol are the coefficients, the lowest bit the constant.
-#[derive(Clone, Copy)]
+#[derive(Clone, Copy, PartialEq, Eq, Debug)]
 pub struct Sixteen;
 
 // x^4 + x + 1

@@ -17,10 +17,10 @@ pub trait Modulus {
     ghost high: { MODULUS ≤ 256 };
 }
 
-#[derive(Clone, Copy)]
+#[derive(Clone, Copy, PartialEq, Eq, Debug)]
 pub struct Bits;
 
-#[derive(Clone, Copy)]
+#[derive(Clone, Copy, PartialEq, Eq, Debug)]
 pub struct Digits;
 
 impl Modulus for Bits {

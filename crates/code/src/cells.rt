@@ -1,5 +1,5 @@
 // Cells: what they may hold, how many of them differ from a word, and the working cells set back to zero.
-ghost use Rattle.std.specs.Prelude.{None, position, not, ◌≡◌, ℕ, ◌+◌, ◌<◌, ◌≤◌, true, ◌≢◌, length, IfOk, Ok, Err, OnOk, slice_index};
+ghost use Rattle.std.specs.Prelude.{min, ◌*◌, ◌^◌, ◌-◌, None, position, not, ◌≡◌, ℕ, ◌+◌, ◌<◌, ◌≤◌, true, ◌≢◌, length, IfOk, Ok, Err, OnOk, slice_index};
 ghost use Rattle.code.specs.declared.refusals.Reason.TheVariants.{Misfit};
 ghost use Rattle.code.specs.Cells.{good, wrongs, blanks, zeroed};
 ghost use Rattle.code.specs.Refusals.{refusal, clean};
@@ -21,6 +21,15 @@ pub enum Content {
 pub struct Counts {
     pub wrong: usize,
     pub blank: usize,
+}
+
+impl Counts {
+    // 2 for each wrong cell and 1 for each blank
+    pub fn cost(self) -> usize
+        ensures { result ≡ min (2 * self.wrong + self.blank) (2 ^ 64 - 1) }
+    {
+        self.wrong.saturating_mul(2).saturating_add(self.blank)
+    }
 }
 
 impl Content {

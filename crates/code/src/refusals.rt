@@ -7,7 +7,7 @@ pub const MAX_LENGTH: usize = 4096;
 
 pub const MAX_WORKING: usize = 16384;
 
-#[derive(Clone, Copy, PartialEq, Eq, Debug)]
+#[derive(Clone, Copy, PartialEq, Eq, PartialOrd, Ord, Debug)]
 pub enum Reason {
     // the code is longer than 4,096 or asks for more than 16,384 working cells
     Oversize = 1,
@@ -71,7 +71,7 @@ pub struct Refusal {
 
 // How many input, answer and working cells a call is lent, or asks for.
 #[derive(Clone, Copy, PartialEq, Eq, Debug)]
-pub struct Sizes {
+struct Sizes {
     input: usize,
     answer: usize,
     working: usize,

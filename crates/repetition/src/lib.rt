@@ -27,7 +27,7 @@ const MAX_REPEATS: usize = 64;
 const WORKING_CELLS: usize = 0;
 
 // n equal symbols. A value with another n means the trivial code.
-#[derive(Drop)]
+#[derive(Clone, Copy, PartialEq, Eq, Debug, Drop)]
 pub struct Repetition<S> {
     pub n: usize,
     pub symbols: PhantomData<S>,
@@ -90,7 +90,7 @@ impl<S: Alphabet> Repeats<S> {
         let symbol = votes::elect(received);
         let word = [symbol; MAX_REPEATS];
         let counts = count(received, &word[0..self.n])?;
-        if 2 * counts.wrong + counts.blank >= self.n {
+        if counts.cost() >= self.n {
             return Err(Reason::Lost.at(0));
         }
         answer.fill(symbol);

@@ -28,7 +28,7 @@ const MAX_SUMMANDS: usize = 64;
 const WORKING_CELLS: usize = 0;
 
 // n symbols that add up to 0. A value with another n means the trivial code.
-#[derive(Drop)]
+#[derive(Clone, Copy, PartialEq, Eq, Debug, Drop)]
 pub struct Sum<S> {
     pub n: usize,
     pub symbols: PhantomData<S>,

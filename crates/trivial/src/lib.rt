@@ -20,7 +20,7 @@ const DISTANCE: usize = 1;
 
 const WORKING_CELLS: usize = 0;
 
-#[derive(Drop)]
+#[derive(Clone, Copy, PartialEq, Eq, Debug, Drop)]
 pub struct Trivial<S> {
     pub symbols: PhantomData<S>,
 }
@@ -94,7 +94,6 @@ impl<S: Alphabet> Code for Trivial<S> {
 
     fn take_out(&self, word: &[u16], answer: &mut [u16]) -> Result<(), Refusal> {
         check_take_out(LENGTH, MESSAGE_LENGTH, WORKING_CELLS, word, answer)?;
-        check_cells(word, S::Q, Content::Word)?;
-        Ok(())
+        check_cells(word, S::Q, Content::Word)
     }
 }
