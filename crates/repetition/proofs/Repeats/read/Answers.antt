@@ -8,8 +8,8 @@ use Rattle.repetition.specs.Repeats.{repeats}
 use Rattle.repetition.specs.RepeatsLemmas.{repeats_apart, word, front, none_near}
 use Rattle.repetition.proofs.Repeats.read.Goals as goal
 
-pub returns-then-counts-self : goal.returns-then-counts-self
-returns-then-counts-self g c =
+pub returns-then-cost-self : goal.returns-then-cost-self
+returns-then-cost-self g c =
     let r : List ℕ = c.args.received.now in
     let n : ℕ = c.args.self.now.n in
     let v : ℕ = c.elect-symbol.result in
@@ -17,7 +17,7 @@ returns-then-counts-self g c =
     let counted = c.in_ok-counts.ensures.is in
     let wrong-is : c.in_ok-counts.counts.wrong ≡ wrongs r (replicate n v) = counted.1 ∙ ap (wrongs r) (front n 64 v c.args.self.now.high) in
     let blank-is : c.in_ok-counts.counts.blank ≡ blanks r = counted.2 in
-    let here : n ≤ cost r (replicate n v) = omega (arith, c.if-counts-self.true) in
+    let here : n ≤ cost r (replicate n v) = omega (arith, c.if-cost-self.true, c.cost.ensures) in
     let others : (u : ℕ) → u ≢ v → n ≤ cost r (replicate n u) =
     λ u ne. subst (λ (m : ℕ). m ≤ cost r (replicate m u)) long (c.elect-symbol.ensures.others u ne) in
     reads_passed {a' = c.args.answer.now} c.Q.ensures
@@ -38,7 +38,7 @@ returns g c =
     let near : Within (repeats q n) r (replicate n v) c.in_ok-counts.counts =
     within (repeats q n) (repeats_apart q n c.args.self.now.low) r fit.0 (replicate n v) c.in_ok-counts.counts
     (word q n v below)
-    (counted.1 ∙ ap (wrongs r) (front n 64 v c.args.self.now.high)) counted.2 c.if-counts-self.false in
+    (counted.1 ∙ ap (wrongs r) (front n 64 v c.args.self.now.high)) counted.2 (omega (arith, c.if-cost-self.false, c.cost.ensures)) in
     let filled : c.fill.new.self ≡ replicate n v = c.fill.ensures.after (λ y e. e) ∙ ap (λ m. replicate m v) fit.1 in
     reads_passed {a' = c.fill.new.self} c.Q.ensures
     c.in_ok-check_read.ensures.is c.in_ok-check_cells.ensures.is refl
