@@ -47,7 +47,10 @@ impl Alphabet for Sixteen {
 
     ghost ring = { sixteen };
 
-    fn size() -> u16 {
+    fn size() -> u16
+        ensures is { result ≡ 16 }
+        ensures constant { ⟦<Sixteen as Alphabet>⟧.Q ≡ result }
+    {
         Self::Q
     }
 

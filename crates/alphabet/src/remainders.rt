@@ -56,7 +56,10 @@ impl<M: Modulus> Alphabet for M {
 
     ghost ring = { remainders M.MODULUS M.low M.high };
 
-    fn size() -> u16 {
+    fn size() -> u16
+        ensures is { result ≡ M.MODULUS }
+        ensures constant { ⟦<M as Alphabet>⟧.Q ≡ result }
+    {
         M::MODULUS
     }
 
