@@ -1,5 +1,5 @@
 -- Cells, and what received cells cost against a word. Assumes nothing.
-use Rattle.std.specs.Prelude.{ℕ, zero, suc, ◌+◌, ◌*◌, Bool, cond, ◌||◌, List, [], ◌∷◌, map, length, ◌==◌, nat_lt, slice_index}
+use Rattle.std.specs.Prelude.{◌≡◌, ℕ, zero, suc, ◌+◌, ◌*◌, ◌<◌, Bool, true, cond, ◌||◌, List, [], ◌∷◌, map, length, ◌==◌, nat_lt, slice_index}
 use Rattle.std.specs.List.{range_with_len}
 use Rattle.alphabet.specs.Sums.{sum}
 use Rattle.code.specs.declared.cells.Content.{Content}
@@ -45,6 +45,10 @@ differing u v = sum (length u) (λ i. cond (slice_index u i == slice_index v i) 
 abbrev pub good : Content → ℕ → ℕ → Bool
 good Word q x = nat_lt x q
 good Received q x = nat_lt x q || x == blank
+
+-- every cell is good
+abbrev pub Holds : Content → ℕ → List ℕ → Type 0
+Holds t q xs = (i : ℕ) → i < length xs → good t q (slice_index xs i) ≡ true
 
 -- the first m cells zero, or all where there are fewer; the rest as they were
 abbrev pub zeroed : ℕ → List ℕ → List ℕ

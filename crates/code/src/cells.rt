@@ -1,7 +1,7 @@
 // Cells: what they may hold, how many of them differ from a word, and the working cells set back to zero.
 ghost use Rattle.std.specs.Prelude.{min, ◌*◌, ◌^◌, ◌-◌, None, position, not, ◌≡◌, ℕ, ◌+◌, ◌<◌, ◌≤◌, true, ◌≢◌, length, IfOk, Ok, Err, OnOk, slice_index};
 ghost use Rattle.code.specs.declared.refusals.Reason.TheVariants.{Misfit};
-ghost use Rattle.code.specs.Cells.{good, wrongs, blanks, zeroed};
+ghost use Rattle.code.specs.Cells.{good, Holds, wrongs, blanks, zeroed};
 ghost use Rattle.code.specs.Refusals.{refusal, clean};
 
 use crate::refusals::{Reason, Refusal};
@@ -46,7 +46,7 @@ impl Content {
 // Where the first cell stands that may not be there.
 fn find_smudge(cells: &[u16], q: u16, content: Content) -> Option<usize>
     ensures first { result ≡ position (λ cell. not (good content q cell)) cells.now }
-    ensures passed { result ≡ None → (i : ℕ) → i < length cells.now → good content q (slice_index cells.now i) ≡ true }
+    ensures passed { result ≡ None → Holds content q cells.now }
 {
     cells.iter().position(|cell| !content.allows(q, *cell))
 }
@@ -54,7 +54,7 @@ fn find_smudge(cells: &[u16], q: u16, content: Content) -> Option<usize>
 // The first cell that may not stand there is a smudge.
 pub fn check_cells(cells: &[u16], q: u16, content: Content) -> Result<(), Refusal>
     ensures is { result ≡ clean (good content q) cells.now }
-    ensures passed { OnOk result ((i : ℕ) → i < length cells.now → good content q (slice_index cells.now i) ≡ true) }
+    ensures passed { OnOk result (Holds content q cells.now) }
 {
     match find_smudge(cells, q, content) {
         Some(at) => Err(Reason::Smudge.at(at)),

@@ -1,6 +1,6 @@
 // Majority voting by Boyer and Moore: after one pass no symbol but the candidate can stand in more than half of the cells that were read.
 ghost use Rattle.std.specs.Prelude.{◌≡◌, ℕ, ◌+◌, ◌^◌, ◌<◌, ◌≤◌, true, ◌≢◌, length, replicate, slice_index};
-ghost use Rattle.code.specs.Cells.{good, cost, price};
+ghost use Rattle.code.specs.Cells.{good, Holds, cost, price};
 ghost use Rattle.code.specs.declared.cells.Content.TheVariants.{Received};
 ghost use Rattle.repetition.specs.Votes.{Led};
 
@@ -45,7 +45,7 @@ impl Vote {
 // The one symbol whose row can cost less than the number of the cells.
 pub(crate) fn elect(received: &[u16]) -> u16
     ensures others { (v : ℕ) → v ≢ result → length received.now ≤ cost received.now (replicate (length received.now) v) }
-    ensures symbol { (q : ℕ) → 0 < q → ((i : ℕ) → i < length received.now → good Received q (slice_index received.now i) ≡ true) → result < q }
+    ensures symbol { (q : ℕ) → 0 < q → Holds Received q received.now → result < q }
 {
     let mut vote = Vote::default();
     for cell in received {

@@ -5,7 +5,7 @@ use Rattle.std.proofs.lemmas.Bool.Decides.{nat_tests}
 use Rattle.alphabet.specs.Rings.{Ring}
 use Rattle.alphabet.specs.Sums.{added}
 use Rattle.alphabet.proofs.Additions.{added_closed}
-use Rattle.code.specs.Cells.{good}
+use Rattle.code.specs.Cells.{good, Holds}
 use Rattle.code.specs.Codes.{Message, Carries}
 use Rattle.code.specs.declared.cells.Content.TheVariants.{Word}
 use Rattle.sum.specs.Balance.{Balanced, but_last}
@@ -15,7 +15,7 @@ symbol : (q x : ℕ) → good Word q x ≡ true → x < q
 symbol q x h = grind (arith, nat_tests)
 
 module _ {q : ℕ} {add : ℕ → ℕ → ℕ} {neg : ℕ → ℕ} {mul : ℕ → ℕ → ℕ} (ring : Ring q add neg mul) (n : ℕ) (long : 2 ≤ n)
-    (m : List ℕ) (sized : length m ≡ n - 1) (clean : (i : ℕ) → i < length m → good Word q (get_or m i 0) ≡ true) where
+    (m : List ℕ) (sized : length m ≡ n - 1) (clean : Holds Word q m) where
   message : Message q (n - 1) m
   message = record { sized = sized; symbols = λ i l. symbol q (get_or m i 0) (clean i (omega arith)) }
 

@@ -7,13 +7,14 @@ use Rattle.alphabet.specs.Sums.{added}
 use Rattle.alphabet.proofs.Additions.{added_same, added-add, added-one}
 use Rattle.alphabet.proofs.Sums.{sum_same, sum_constant, one_place, two_places}
 use Rattle.alphabet.proofs.Symbols.{zero_in, zero-add}
-use Rattle.code.specs.Cells.{blank, wrong, faint, wrongs, cost}
+use Rattle.code.specs.Cells.{Holds, blank, wrong, faint, wrongs, cost}
 use Rattle.code.specs.Calls.{Within, Beyond}
 use Rattle.code.proofs.Costs.{within}
+use Rattle.code.specs.declared.cells.Content.TheVariants.{Received}
 use Rattle.sum.specs.Balance.{Balanced, balances}
 use Rattle.sum.specs.Scans.{shown, Tally, Scanned}
 use Rattle.sum.specs.BalanceLemmas.{balances_apart}
-use Rattle.sum.proofs.Scanning.{Clean, each_below, total_below, faint-one}
+use Rattle.sum.proofs.Scanning.{each_below, total_below, faint-one}
 
 -- one cell
 unfaint : (x : ℕ) → faint x ≡ 0 → (shown x ≡ x) × (x ≢ blank)
@@ -38,7 +39,7 @@ no_wrongs r w h =
     omega (arith, none, sum_constant (length r) 0)
 
 module _ {q : ℕ} {add : ℕ → ℕ → ℕ} {neg : ℕ → ℕ} {mul : ℕ → ℕ → ℕ} (ring : Ring q add neg mul) (n : ℕ) (long : 2 ≤ n)
-    (r : List ℕ) (sized : length r ≡ n) (clean : Clean q r) (s : Tally) (told : Scanned add r (length r) s) where
+    (r : List ℕ) (sized : length r ≡ n) (clean : Holds Received q r) (s : Tally) (told : Scanned add r (length r) s) where
   abbrev F : ℕ → ℕ
   F i = shown (get_or r i 0)
 

@@ -6,13 +6,9 @@ use Rattle.alphabet.specs.Sums.{added}
 use Rattle.alphabet.proofs.Additions.{added_closed}
 use Rattle.alphabet.proofs.Sums.{sum_more, two_places}
 use Rattle.alphabet.proofs.Symbols.{zero_in}
-use Rattle.code.specs.Cells.{blank, faint, good, blanks}
+use Rattle.code.specs.Cells.{blank, faint, good, Holds, blanks}
 use Rattle.code.specs.declared.cells.Content.TheVariants.{Word, Received}
 use Rattle.sum.specs.Scans.{shown, Tally, tally, Scanned}
-
--- received cells: symbols or blanks
-abbrev pub Clean : ℕ → List ℕ → Type 0
-Clean q r = (i : ℕ) → i < length r → good Received q (get_or r i 0) ≡ true
 
 pub shown_below : (q x : ℕ) → 0 < q → good Received q x ≡ true → shown x < q
 shown_below q x some h = grind (arith, nat_tests)
@@ -26,7 +22,7 @@ faint-one x e = omega (arith, (shown-blank x e).1)
 shown_symbol : (x : ℕ) → x ≢ blank → (shown x ≡ x) × (faint x ≡ 0)
 shown_symbol x e = (grind (arith, nat_tests), grind (arith, nat_tests))
 
-module _ {q : ℕ} {add : ℕ → ℕ → ℕ} {neg : ℕ → ℕ} {mul : ℕ → ℕ → ℕ} (ring : Ring q add neg mul) (r : List ℕ) (clean : Clean q r) where
+module _ {q : ℕ} {add : ℕ → ℕ → ℕ} {neg : ℕ → ℕ} {mul : ℕ → ℕ → ℕ} (ring : Ring q add neg mul) (r : List ℕ) (clean : Holds Received q r) where
   pub each_below : (j : ℕ) → j < length r → shown (get_or r j 0) < q
   each_below j l = shown_below q (get_or r j 0) (zero_in ring) (clean j l)
 
@@ -80,7 +76,7 @@ module _ {q : ℕ} {add : ℕ → ℕ → ℕ} {neg : ℕ → ℕ} {mul : ℕ �
 
 -- ---- cells that hold symbols only
 module _ {q : ℕ} {add : ℕ → ℕ → ℕ} {neg : ℕ → ℕ} {mul : ℕ → ℕ → ℕ} (ring : Ring q add neg mul) (r : List ℕ)
-    (words : (i : ℕ) → i < length r → good Word q (get_or r i 0) ≡ true) where
+    (words : Holds Word q r) where
   symbol_below : (i : ℕ) → i < length r → get_or r i 0 < q
   symbol_below i l = let e = words i l in grind (arith, nat_tests)
 

@@ -1,7 +1,7 @@
 // One pass over cells: what the symbols add up to, and where the one blank stands.
 ghost use Rattle.std.specs.Prelude.{◌≡◌, ℕ, ◌<◌, ◌≤◌, true, length, slice_index, Some, None};
 ghost use Rattle.alphabet.specs.Sums.{added};
-ghost use Rattle.code.specs.Cells.{good, blanks};
+ghost use Rattle.code.specs.Cells.{Holds, blanks};
 ghost use Rattle.code.specs.declared.cells.Content.TheVariants.{Word, Received};
 ghost use Rattle.sum.specs.Scans.{Scanned, tally};
 
@@ -17,7 +17,7 @@ pub(crate) struct Scan {
 
 // None where two cells are blank.
 pub(crate) fn scan_cells<S: Alphabet>(received: &[u16]) -> Option<Scan>
-    requires { (i : ℕ) → i < length received.now → good Received S.Alphabet.Q (slice_index received.now i) ≡ true }
+    requires { Holds Received S.Alphabet.Q received.now }
     ensures { elim result [ Some s ↦ Scanned S.Alphabet.plus received.now (length received.now) (tally s) | None ↦ 2 ≤ blanks received.now ] }
 {
     let mut scan = Scan {
@@ -37,7 +37,7 @@ pub(crate) fn scan_cells<S: Alphabet>(received: &[u16]) -> Option<Scan>
 }
 
 pub(crate) fn add_symbols<S: Alphabet>(cells: &[u16]) -> u16
-    requires { (i : ℕ) → i < length cells.now → good Word S.Alphabet.Q (slice_index cells.now i) ≡ true }
+    requires { Holds Word S.Alphabet.Q cells.now }
     ensures { result ≡ added S.Alphabet.plus (length cells.now) (λ i. slice_index cells.now i) }
 {
     let mut total = 0;

@@ -1,6 +1,6 @@
-use Rattle.std.proofs.Common.{◌≡◌, ℕ, ◌-◌, ◌<◌, true, List, ◌++◌, length, get_or, set, sym, refl, subst, arith, length-drop}
+use Rattle.std.proofs.Common.{◌≡◌, ℕ, ◌-◌, List, ◌++◌, length, set, sym, refl, subst, arith, length-drop}
 use borrow.Rule.Slice.PartMut.{post_of}
-use Rattle.code.specs.Cells.{good}
+use Rattle.code.specs.Cells.{Holds}
 use Rattle.code.specs.Codes.{Carries}
 use Rattle.code.specs.declared.cells.Content.TheVariants.{Word}
 use Rattle.code.proofs.Checks.{encodes_passed}
@@ -15,8 +15,7 @@ returns g c =
     let q : ℕ = g.S.Alphabet.Q in
     let ring = g.met.S.Alphabet.ring in
     let fit = c.in_ok-check_encode.ensures.passed in
-    let clean : (i : ℕ) → i < length m → good Word q (get_or m i 0) ≡ true =
-    subst (λ (p : ℕ). (i : ℕ) → i < length m → good Word p (get_or m i 0) ≡ true) c.Q.ensures c.in_ok-check_cells.ensures.passed in
+    let clean : Holds Word q m = subst (λ (p : ℕ). Holds Word p m) c.Q.ensures c.in_ok-check_cells.ensures.passed in
     let rest : List ℕ = post_of 0 (n - 1 - 0) c.args.answer.now in
     let room : length rest ≡ 1 = omega (arith, length-drop (n - 1 - 0) c.args.answer.now) in
     let t = c.add_symbols.result in
