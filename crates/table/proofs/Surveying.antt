@@ -1,14 +1,11 @@
 -- A survey goes on by one word: the least weight so far, and the cheapest word so far. Assumes nothing.
-use Rattle.std.proofs.Common.{◌≡◌, ℕ, zero, suc, ◌+◌, ◌-◌, ◌*◌, ◌^◌, ◌<◌, ◌≤◌, min, Bool, true, false, cond, not, eqb, count_by, List, [], ◌∷◌, length, get_or, take, replicate, sym, refl, ap, ◌∙◌, subst, ap₂, inl, inr, arith, below_more}
-use lib.ListN.{length-replicate, get_or-replicate}
-use Rattle.std.proofs.lemmas.List.{take-replicate}
+use Rattle.std.proofs.Common.{◌≡◌, ℕ, zero, suc, ◌+◌, ◌-◌, ◌*◌, ◌^◌, ◌<◌, ◌≤◌, min, true, false, cond, not, eqb, count_by, List, [], ◌∷◌, length, get_or, replicate, sym, refl, ap, ◌∙◌, subst, ap₂, arith, below_more}
+use lib.ListN.{get_or-replicate}
 use Rattle.std.proofs.lemmas.List.Sums.{sum_by-cons}
-use Rattle.std.proofs.lemmas.Bool.Decides.{nat_tests}
 use Rattle.alphabet.specs.Rings.{Ring}
 use Rattle.alphabet.specs.Sums.{sum}
-use Rattle.alphabet.proofs.Sums.{sum_same}
 use Rattle.code.specs.declared.cells.Counts.{Counts}
-use Rattle.code.specs.Cells.{wrong, wrongs, blanks, cost}
+use Rattle.code.specs.Cells.{wrongs, blanks, cost}
 use Rattle.table.specs.Tables.{Generator, Tabled, weight, number, spelled, lowest, least}
 use Rattle.table.specs.Surveys.{Surveyed}
 use Rattle.table.specs.Numbers.{number_same, number_nought, lowest_more}
@@ -77,13 +74,6 @@ module _ (s : Generator) {neg : ℕ → ℕ} (ring : Ring s.q s.add neg s.mul) (
         let back : t - 1 + 1 ≡ t = omega arith in
         lowest_more (s.k + s.m) (λ u. weight (spelled s (u + 1))) t distance w one h.distance
         (weighs ∙ ap weight (sym word_is) ∙ ap (λ u. weight (spelled s u)) (sym back))
-
-    -- what the code holds under other names: y for the nearest word, e for the least weight, k for the counts
-    pub renamed : (x y : List ℕ) (e : ℕ) (k o : Counts) → y ≡ x → e ≡ min distance w → k ≡ o → Sofar s r next x (t + 1) (min distance w) o → Sofar s r next y (t + 1) e k
-    renamed x y e k o ey ee ek h =
-        subst (λ (z : List ℕ). Sofar s r next z (t + 1) e k) (sym ey)
-        (subst (λ (z : ℕ). Sofar s r next x (t + 1) z k) (sym ee)
-        (subst (λ (z : Counts). Sofar s r next x (t + 1) (min distance w) z) (sym ek) h))
 
     pub nearer : (o : Counts) → o.wrong ≡ wrongs r next → o.blank ≡ blanks r → o.wrong + o.blank ≤ length r
         → 2 * o.wrong + o.blank < 2 * c.wrong + c.blank → Sofar s r next next (t + 1) (min distance w) o

@@ -1,5 +1,5 @@
 -- A walk over message symbols and their rows, which adds up a check symbol. Assumes nothing.
-use Rattle.std.proofs.Common.{◌≡◌, ℕ, suc, ◌+◌, ◌-◌, ◌*◌, ◌%◌, ◌<◌, ◌≤◌, List, [], ◌∷◌, ◌++◌, length, get_or, drop, refl, sym, ap, ◌∙◌, arith, subst, ◌⊎◌, ⊎_elim, zero-mul, mul-le-mul_right}
+use Rattle.std.proofs.Common.{mod-eq_of_lt, ap₂, add-one, ◌≡◌, ℕ, ◌+◌, ◌*◌, ◌%◌, ◌<◌, ◌≤◌, List, ◌∷◌, ◌++◌, length, get_or, drop, refl, sym, ap, ◌∙◌, arith, subst, ◌⊎◌, ⊎_elim, zero-mul, mul-le-mul_right}
 use Rattle.std.proofs.lemmas.List.{get_or-drop, get_or_append_left, length-drop, drop-drop, drop_at}
 use Rattle.std.proofs.lemmas.Bool.{cases_lt}
 use Rattle.std.proofs.lemmas.Nat.{mod_below}
@@ -7,7 +7,15 @@ use Rattle.alphabet.specs.Rings.{Ring}
 use Rattle.alphabet.specs.Sums.{added}
 use Rattle.alphabet.proofs.Symbols.{zero_in}
 use Rattle.table.specs.Tables.{Generator, coefficient, check}
-use Rattle.table.proofs.Steps.{added_more}
+
+-- one more product in a running sum, as the alphabet's calls answer it
+pub added_more : {q : ℕ} {add : ℕ → ℕ → ℕ} {neg : ℕ → ℕ} {mul : ℕ → ℕ → ℕ} → Ring q add neg mul → (f : ℕ → ℕ) (i sum x y p t : ℕ)
+    → sum ≡ added add i f → sum < q → x < q → y < q → f i ≡ mul x y → p ≡ mul (x % q) y → t ≡ add (sum % q) (p % q) → (t ≡ added add (i + 1) f) × (t < q)
+added_more {q} {add} {neg} {mul} r f i sum x y p t e low lx ly fi ep et =
+    let px : p ≡ mul x y = ep ∙ ap (λ z. mul z y) (mod-eq_of_lt lx) in
+    let lp : p < q = subst (λ (z : ℕ). z < q) (sym px) (r.mul_closed x y lx ly) in
+    let is : t ≡ add sum p = et ∙ ap₂ add (mod-eq_of_lt low) (mod-eq_of_lt lp) in
+    (is ∙ ap₂ add e (px ∙ sym fi) ∙ ap (λ n. added add n f) (sym (add-one i)), subst (λ (z : ℕ). z < q) (sym is) (r.add_closed sum p low lp))
 
 -- the first n symbols of the message have been added up by column j, and the rest of them and their rows are still to come
 pub record Walking (s : Generator) (message : List ℕ) (j : ℕ) (symbols rows : List ℕ) (size n total : ℕ) : Type 0 where

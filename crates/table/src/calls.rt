@@ -22,7 +22,7 @@ use code::{
 };
 use trivial::Trivial;
 
-impl<'t, S: Alphabet> Rows<'t, S> {
+impl<S: Alphabet> Rows<'_, S> {
     // The least weight of a word of a nonzero message.
     fn distance(&self) -> usize
         ensures is { result ≡ (tables (generator_of self.now)).d }
@@ -148,7 +148,7 @@ impl<S: Alphabet> Code for Table<S> {
     }
 
     fn message_place(&self, i: usize) -> Option<usize> {
-        self.proper().filter(|rows| i < rows.k).map(|_| i)
+        (i < self.message_length()).then_some(i)
     }
 
     fn read(

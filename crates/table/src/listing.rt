@@ -33,7 +33,7 @@ fn compare(received: &[u16], word: &[u16]) -> Counts
     count(received, word).unwrap()
 }
 
-impl<'t, S: Alphabet> Rows<'t, S> {
+impl<S: Alphabet> Rows<'_, S> {
     // Adds so many times row i to the check symbols.
     fn add_row(&self, checks: &mut [u16], change: u16, i: usize)
         requires sized { length checks.old ≡ self.now.m }

@@ -20,10 +20,10 @@ pub(crate) const MAX_WORD: usize = 24;
 pub(crate) fn message_count<S: Alphabet>(k: usize, m: usize) -> Option<usize>
     ensures { elim result [ Some n ↦ (tabulable S.Alphabet.Q k m ≡ true) × (n ≡ S.Alphabet.Q ^ k) × (1 ≤ k) × (k ≤ 8) × (1 ≤ m) × (m ≤ 16) | None ↦ tabulable S.Alphabet.Q k m ≡ false ] }
 {
-    if k < 1 || k > MAX_MESSAGE || m < 1 || m > MAX_CHECKS {
+    if !(1..=MAX_MESSAGE).contains(&k) || !(1..=MAX_CHECKS).contains(&m) {
         return None;
     }
-    let count = usize::from(S::Q).checked_pow(k as u32)?;
+    let count = usize::from(S::Q).checked_pow(u32::try_from(k).ok()?)?;
     (count <= MAX_MESSAGES).then_some(count)
 }
 
@@ -41,7 +41,7 @@ pub(crate) struct Rows<'t, S: Alphabet> {
     ghost table: { k * m ≤ length coefficients.now },
 }
 
-impl<'t, S: Alphabet> Rows<'t, S> {
+impl<S: Alphabet> Rows<'_, S> {
     // The length of a word.
     pub(crate) fn length(&self) -> usize
         ensures { result ≡ self.now.k + self.now.m }

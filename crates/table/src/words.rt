@@ -6,7 +6,7 @@ ghost use Rattle.table.specs.Rows.{generator_of};
 use crate::rows::Rows;
 use alphabet::Alphabet;
 
-impl<'t, S: Alphabet> Rows<'t, S> {
+impl<S: Alphabet> Rows<'_, S> {
     // The coefficients of message symbol i.
     pub(crate) fn row(&self, i: usize) -> &[u16]
         requires { i < self.now.k }
@@ -37,12 +37,10 @@ impl<'t, S: Alphabet> Rows<'t, S> {
         requires checks { length checks.now ≡ self.now.m }
         ensures { IsTrue result ↔ ((j : ℕ) → j < self.now.m → slice_index checks.now j ≡ check (generator_of self.now) (λ i. slice_index message.now i) j) }
     {
-        for (j, symbol) in checks.iter().enumerate() {
-            if *symbol != self.check_symbol(message, j) {
-                return false;
-            }
-        }
-        true
+        checks
+            .iter()
+            .enumerate()
+            .all(|(j, symbol)| *symbol == self.check_symbol(message, j))
     }
 
     // Writes the check symbols of the message.

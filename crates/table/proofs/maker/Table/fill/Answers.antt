@@ -1,6 +1,5 @@
 use Rattle.std.proofs.Common.{◌≡◌, ℕ, ◌-◌, ◌*◌, List, ◌++◌, drop, replicate, refl, ap, ◌∙◌, ap₂, arith}
 use Rattle.std.proofs.lemmas.List.{drop-replicate}
-use Rattle.table.proofs.Steps.{fillable_ok}
 use Rattle.table.proofs.maker.Table.fill.Goals as goal
 
 pub returns-clause-table : goal.returns-clause-table

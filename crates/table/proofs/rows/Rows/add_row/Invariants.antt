@@ -6,5 +6,5 @@ use Rattle.table.proofs.rows.Rows.add_row.Given as goal
 abbrev pub invariant-loop-j : goal.invariant-loop-j
 invariant-loop-j g l = record {
   done : (j : ℕ) → j < l.j → get_or l.checks j 0 ≡ g.S.Alphabet.plus (get_or l.initial.checks j 0 % g.S.Alphabet.Q) (g.S.Alphabet.times (l.change % g.S.Alphabet.Q) (coefficient (generator_of l.self) l.i j) % g.S.Alphabet.Q);
-  later : (j : ℕ) → l.j ≤ j → get_or l.checks j 0 ≡ get_or l.initial.checks j 0
+  later : (j : ℕ) → l.j ≤ j → get_or l.checks j 0 ≡ get_or l.initial.checks j 0;
 }

@@ -1,10 +1,10 @@
-use Rattle.std.proofs.Common.{◌≡◌, ℕ, ◌+◌, ◌-◌, ◌%◌, ◌<◌, List, length, get_or, set, ap, ◌∙◌, arith, rules, length-set}
+use Rattle.std.proofs.Common.{◌≡◌, ℕ, ◌+◌, ◌-◌, ◌%◌, List, length, get_or, set, ap, ◌∙◌, arith, rules, length-set}
 use Rattle.std.proofs.lemmas.List.{places}
 use borrow.Rule.Slice.PartMut.{put_mid, mid_of}
 use Rattle.table.specs.Tables.{Generator, coefficient}
 use Rattle.table.specs.Rows.{generator_of}
 use Rattle.table.proofs.Changes.{change_is, changed_tabled}
-use Rattle.table.proofs.Steps.{length-end}
+use Rattle.table.proofs.Parts.{length-end}
 use Rattle.table.proofs.rows.Rows.change_symbol.Goals as goal
 
 pub returns-clause-tabled : goal.returns-clause-tabled

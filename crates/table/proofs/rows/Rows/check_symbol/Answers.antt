@@ -1,8 +1,6 @@
-use Rattle.std.proofs.Common.{◌≡◌, ℕ, ◌+◌, ◌*◌, length, drop, refl, sym, ap, subst, inl, inr, ⊎_elim, zero-mul}
+use Rattle.std.proofs.Common.{inl, inr, ⊎_elim}
 use Rattle.std.proofs.lemmas.List.{length_push}
-use Rattle.alphabet.proofs.Symbols.{zero_in}
-use Rattle.table.specs.Rows.{generator_of}
-use Rattle.table.proofs.Walks.{Walking, begun, walk_more, walked}
+use Rattle.table.proofs.Walks.{begun, walk_more, walked}
 use Rattle.table.proofs.rows.Rows.check_symbol.Goals as goal
 
 pub loop-symbol-init : goal.loop-symbol-init

@@ -5,7 +5,7 @@ use Rattle.code.proofs.Checks.{encodes_passed}
 use Rattle.table.specs.Tables.{Generator}
 use Rattle.table.specs.Rows.{generator_of}
 use Rattle.table.specs.Laws.{made_at, made_word}
-use Rattle.table.proofs.Steps.{length-end, symbol_good}
+use Rattle.table.proofs.Parts.{length-end, symbol_good}
 use Rattle.table.proofs.rows.Rows.encode.Goals as goal
 
 pub returns : goal.returns

@@ -1,7 +1,7 @@
 use Rattle.std.proofs.Common.{◌∙◌, get_or, arith, rules}
 use Rattle.code.proofs.Checks.{judges_passed}
 use Rattle.table.specs.Rows.{generator_of}
-use Rattle.table.proofs.Steps.{symbol_good, agreed, agrees}
+use Rattle.table.proofs.Parts.{symbol_good, agreed, agrees}
 use Rattle.table.proofs.rows.Rows.judge.Goals as goal
 
 pub returns : goal.returns

@@ -1,4 +1,4 @@
-use Rattle.std.proofs.Common.{◌≡◌, ℕ, ◌+◌, ◌^◌, ◌<◌, ◌≤◌, List, get_or, replicate, ap, ◌∙◌, arith}
+use Rattle.std.proofs.Common.{◌≡◌, ℕ, ◌^◌, ◌≤◌, List, replicate, ap, ◌∙◌, arith}
 use Rattle.table.specs.Tables.{Generator, weight}
 use Rattle.table.specs.Rows.{generator_of}
 use Rattle.table.specs.Numbers.{pow_some}
