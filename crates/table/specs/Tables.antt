@@ -24,6 +24,15 @@ coefficient s i j = slice_index s.rows (i * s.m + j) % s.q
 abbrev pub check : Generator → (ℕ → ℕ) → ℕ → ℕ
 check s x j = added s.add s.k (λ i. s.mul (x i) (coefficient s i j))
 
+-- a message: k symbols
+pub record Message (s : Generator) (x : List ℕ) : Type 0 where
+  pub sized : length x ≡ s.k
+  pub symbols : (i : ℕ) → i < s.k → slice_index x i < s.q
+
+-- y holds the check symbols of the message x
+abbrev pub Checks : Generator → List ℕ → List ℕ → Type 0
+Checks s x y = (j : ℕ) → j < s.m → slice_index y j ≡ check s (λ i. slice_index x i) j
+
 -- a word: k message symbols, followed by their m check symbols
 pub record Tabled (s : Generator) (w : List ℕ) : Type 0 where
   pub sized : length w ≡ s.k + s.m

@@ -1,6 +1,6 @@
 // The words of a table: a message followed by its check symbols.
 ghost use Rattle.std.specs.Prelude.{◌≡◌, ℕ, ◌+◌, ◌*◌, ◌<◌, ◌↔◌, IsTrue, length, slice_index};
-ghost use Rattle.table.specs.Tables.{check, coefficient};
+ghost use Rattle.table.specs.Tables.{Message, Checks, check};
 ghost use Rattle.table.specs.Rows.{generator_of};
 
 use crate::rows::Rows;
@@ -18,8 +18,7 @@ impl<S: Alphabet> Rows<'_, S> {
 
     // Check symbol j of the message.
     fn check_symbol(&self, message: &[u16], j: usize) -> u16
-        requires sized { length message.now ≡ self.now.k }
-        requires symbols { (i : ℕ) → i < self.now.k → slice_index message.now i < S.Alphabet.Q }
+        requires message { Message (generator_of self.now) message.now }
         requires inside { j < self.now.m }
         ensures { result ≡ check (generator_of self.now) (λ i. slice_index message.now i) j }
     {
@@ -32,10 +31,9 @@ impl<S: Alphabet> Rows<'_, S> {
 
     // Whether these are the check symbols of the message.
     pub(crate) fn agree(&self, message: &[u16], checks: &[u16]) -> bool
-        requires sized { length message.now ≡ self.now.k }
-        requires symbols { (i : ℕ) → i < self.now.k → slice_index message.now i < S.Alphabet.Q }
+        requires message { Message (generator_of self.now) message.now }
         requires checks { length checks.now ≡ self.now.m }
-        ensures { IsTrue result ↔ ((j : ℕ) → j < self.now.m → slice_index checks.now j ≡ check (generator_of self.now) (λ i. slice_index message.now i) j) }
+        ensures { IsTrue result ↔ Checks (generator_of self.now) message.now checks.now }
     {
         checks
             .iter()
@@ -45,10 +43,9 @@ impl<S: Alphabet> Rows<'_, S> {
 
     // Writes the check symbols of the message.
     pub(crate) fn write_checks(&self, message: &[u16], checks: &mut [u16])
-        requires sized { length message.now ≡ self.now.k }
-        requires symbols { (i : ℕ) → i < self.now.k → slice_index message.now i < S.Alphabet.Q }
+        requires message { Message (generator_of self.now) message.now }
         requires checks { length checks.old ≡ self.now.m }
-        ensures { (j : ℕ) → j < self.now.m → slice_index checks.new j ≡ check (generator_of self.now) (λ i. slice_index message.now i) j }
+        ensures { Checks (generator_of self.now) message.now checks.new }
     {
         for (j, symbol) in checks.iter_mut().enumerate() {
             *symbol = self.check_symbol(message, j);

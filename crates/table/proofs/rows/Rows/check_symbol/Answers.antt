@@ -10,10 +10,10 @@ pub loop-symbol-preserved : goal.loop-symbol-preserved
 loop-symbol-preserved g c =
     rw (length_push c.loop-symbol.yielded)
     (walk_more _ _ c.args.j g.met.S.Alphabet.ring _ _ _ _ _ c.loop-symbol.invariant
-    _ _ _ _ _ _ _ c.requires.sized c.requires.symbols c.requires.inside
+    _ _ _ _ _ _ _ c.requires.message.sized c.requires.message.symbols c.requires.inside
     c.in-Some.ensures.steps.0 c.in-Some.ensures.steps.1.1.0 c.in-Some.ensures.steps.1.1.1 c.in-Some.ensures.steps.1.0 c.multiply.ensures c.add-sum.ensures)
 
 pub returns : goal.returns
 returns g c =
-    walked _ _ c.args.j g.met.S.Alphabet.ring _ _ _ _ _ c.loop-symbol.invariant c.requires.sized c.args.self.now.table
+    walked _ _ c.args.j g.met.S.Alphabet.ring _ _ _ _ _ c.loop-symbol.invariant c.requires.message.sized c.args.self.now.table
     (⊎_elim (λ e. inl e.1.0) (λ e. inr e.1.1.0) c.in-None.ensures.steps)
