@@ -1,4 +1,5 @@
 -- The lemmas of this crate.
-pub mod Steps
+pub mod Parts
 pub mod Changes
+pub mod Walks
 pub mod Surveying

@@ -1,14 +1,11 @@
 -- A survey goes on by one word: the least weight so far, and the cheapest word so far. Assumes nothing.
-use Rattle.std.proofs.Common.{◌≡◌, ℕ, ◌+◌, ◌-◌, ◌*◌, ◌^◌, ◌<◌, ◌≤◌, min, cond, eqb, List, length, get_or, take, replicate, sym, refl, ap, ◌∙◌, subst, inl, inr, arith, below_more}
-use lib.ListN.{length-replicate, get_or-replicate}
-use Rattle.std.proofs.lemmas.List.{take-replicate}
-use Rattle.std.proofs.lemmas.Bool.{cases_eq}
-use Rattle.std.proofs.lemmas.Bool.Decides.{nat_tests}
+use Rattle.std.proofs.Common.{◌≡◌, ℕ, zero, suc, ◌+◌, ◌-◌, ◌*◌, ◌^◌, ◌<◌, ◌≤◌, min, true, false, cond, not, eqb, count_by, List, [], ◌∷◌, length, get_or, replicate, sym, refl, ap, ◌∙◌, subst, ap₂, arith, below_more}
+use lib.ListN.{get_or-replicate}
+use Rattle.std.proofs.lemmas.List.Sums.{sum_by-cons}
 use Rattle.alphabet.specs.Rings.{Ring}
 use Rattle.alphabet.specs.Sums.{sum}
-use Rattle.alphabet.proofs.Sums.{sum_same}
 use Rattle.code.specs.declared.cells.Counts.{Counts}
-use Rattle.code.specs.Cells.{wrong, wrongs, blanks, cost}
+use Rattle.code.specs.Cells.{wrongs, blanks, cost}
 use Rattle.table.specs.Tables.{Generator, Tabled, weight, number, spelled, lowest, least}
 use Rattle.table.specs.Surveys.{Surveyed}
 use Rattle.table.specs.Numbers.{number_same, number_nought, lowest_more}
@@ -25,19 +22,16 @@ pub record Sofar (s : Generator) (r word nearest : List ℕ) (t d : ℕ) (c : Co
   pub few : c.wrong + c.blank ≤ length r
   pub cheapest : (u : ℕ) → u < t → cost r nearest ≤ cost r (spelled s u)
 
--- ---- weights are counts against zeros
-one-zero : (x y : ℕ) → x ≡ 0 → wrong x y ≡ cond (eqb y 0) 0 1
-one-zero x y e = elim (cases_eq y 0) [ inl z ↦ grind (arith, nat_tests) | inr ne ↦ grind (arith, nat_tests) ]
+-- ---- a weight counts the symbols that are not 0
+sum_front : (n : ℕ) (f : ℕ → ℕ) → sum (suc n) f ≡ f 0 + sum n (λ i. f (suc i))
+sum_front zero f = omega arith
+sum_front (suc n) f = omega (arith, sum_front n f)
 
-pub weight_counted : (n k : ℕ) (w : List ℕ) → length w ≡ n → n ≤ k → wrongs (take (n - 0) (replicate k 0)) w ≡ weight w
-weight_counted n k w e h =
-    let m : n - 0 ≡ n = omega arith in
-    let inside : (i : ℕ) → i < length w → i < n = λ i l. omega arith in
-    let zeros : take (n - 0) (replicate k 0) ≡ replicate n 0 = ap (λ j. take j (replicate k 0)) m ∙ take-replicate n k 0 h in
-    ap (λ z. wrongs z w) zeros
-    ∙ ap (λ j. sum j (λ i. wrong (get_or (replicate n 0) i 0) (get_or w i 0))) (length-replicate n 0 ∙ sym e)
-    ∙ sum_same (length w) (λ i. wrong (get_or (replicate n 0) i 0) (get_or w i 0)) (λ i. cond (eqb (get_or w i 0) 0) 0 1)
-    (λ i l. one-zero (get_or (replicate n 0) i 0) (get_or w i 0) (get_or-replicate n i 0 0 (inside i l)))
+pub count-weight : (w : List ℕ) → count_by (λ x. not (eqb x 0)) w ≡ weight w
+count-weight [] = refl
+count-weight (x ∷ w) =
+    let one : ◌≡◌ {A = ℕ} (cond (not (eqb x 0)) 1 0) (cond (eqb x 0) 0 1) = elim (eqb x 0) as (λ b. ◌≡◌ {A = ℕ} (cond (not b) 1 0) (cond b 0 1)) [ true ↦ refl | false ↦ refl ] in
+    sum_by-cons (λ y. cond (not (eqb y 0)) 1 0) x w ∙ ap₂ ◌+◌ one (count-weight w) ∙ sym (sum_front (length w) (λ i. cond (eqb (get_or (x ∷ w) i 0) 0) 0 1))
 
 module _ (s : Generator) {neg : ℕ → ℕ} (ring : Ring s.q s.add neg s.mul) (r : List ℕ) where
   -- ---- the first word is the zero word
@@ -80,13 +74,6 @@ module _ (s : Generator) {neg : ℕ → ℕ} (ring : Ring s.q s.add neg s.mul) (
         let back : t - 1 + 1 ≡ t = omega arith in
         lowest_more (s.k + s.m) (λ u. weight (spelled s (u + 1))) t distance w one h.distance
         (weighs ∙ ap weight (sym word_is) ∙ ap (λ u. weight (spelled s u)) (sym back))
-
-    -- what the code holds under other names: y for the nearest word, e for the least weight, k for the counts
-    pub renamed : (x y : List ℕ) (e : ℕ) (k o : Counts) → y ≡ x → e ≡ min distance w → k ≡ o → Sofar s r next x (t + 1) (min distance w) o → Sofar s r next y (t + 1) e k
-    renamed x y e k o ey ee ek h =
-        subst (λ (z : List ℕ). Sofar s r next z (t + 1) e k) (sym ey)
-        (subst (λ (z : ℕ). Sofar s r next x (t + 1) z k) (sym ee)
-        (subst (λ (z : Counts). Sofar s r next x (t + 1) (min distance w) z) (sym ek) h))
 
     pub nearer : (o : Counts) → o.wrong ≡ wrongs r next → o.blank ≡ blanks r → o.wrong + o.blank ≤ length r
         → 2 * o.wrong + o.blank < 2 * c.wrong + c.blank → Sofar s r next next (t + 1) (min distance w) o

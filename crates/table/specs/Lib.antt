@@ -2,5 +2,6 @@
 pub mod Tables
 pub mod Makers
 pub mod Surveys
+pub mod Rows
 pub mod Numbers
 pub mod Laws

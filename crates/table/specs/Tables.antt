@@ -24,6 +24,15 @@ coefficient s i j = slice_index s.rows (i * s.m + j) % s.q
 abbrev pub check : Generator → (ℕ → ℕ) → ℕ → ℕ
 check s x j = added s.add s.k (λ i. s.mul (x i) (coefficient s i j))
 
+-- a message: k symbols
+pub record Message (s : Generator) (x : List ℕ) : Type 0 where
+  pub sized : length x ≡ s.k
+  pub symbols : (i : ℕ) → i < s.k → slice_index x i < s.q
+
+-- y holds the check symbols of the message x
+abbrev pub Checks : Generator → List ℕ → List ℕ → Type 0
+Checks s x y = (j : ℕ) → j < s.m → slice_index y j ≡ check s (λ i. slice_index x i) j
+
 -- a word: k message symbols, followed by their m check symbols
 pub record Tabled (s : Generator) (w : List ℕ) : Type 0 where
   pub sized : length w ≡ s.k + s.m
@@ -83,7 +92,3 @@ front k = record { k = k; place = λ i. i }
 -- the limits of the maker: k from 1 to 8, m from 1 to 16, and at most 65,536 messages
 abbrev pub tabulable : (q k m : ℕ) → Bool
 tabulable q k m = (nat_le 1 k && nat_le k 8) && ((nat_le 1 m && nat_le m 16) && nat_le (q ^ k) 65536)
-
--- the number of messages up to 65,536, and 65,537 above that
-abbrev pub capped : (q k : ℕ) → ℕ
-capped q k = cond (nat_le (q ^ k) 65536) (q ^ k) 65537

@@ -4,6 +4,7 @@
 mod calls;
 mod listing;
 mod maker;
+mod rows;
 mod words;
 
 pub use maker::Table;

@@ -1,8 +1,10 @@
 // A table holds its coefficients itself; its maker fills a table that the caller lends.
-ghost use Rattle.std.specs.Prelude.{◌≡◌, ℕ, ◌-◌, ◌*◌, ◌++◌, length, replicate, Ok, Err};
+ghost use Rattle.std.specs.Prelude.{◌≡◌, ℕ, ◌-◌, ◌*◌, ◌++◌, true, false, length, replicate, Some, None, Ok, Err};
 ghost use Rattle.table.specs.Makers.{fillable};
+ghost use Rattle.table.specs.Tables.{tabulable, generator};
+ghost use Rattle.table.specs.Rows.{generator_of};
 
-use crate::words::{MAX_COEFFICIENTS, is_tabulable};
+use crate::rows::{MAX_COEFFICIENTS, Rows, message_count};
 use alphabet::Alphabet;
 use code::{Content, Reason, Refusal, check_cells};
 use std::marker::PhantomData;
@@ -26,12 +28,26 @@ impl<S: Alphabet> Table<S> {
         symbols: PhantomData,
     };
 
+    // The table, where its numbers keep their limits.
+    pub(crate) fn proper(&self) -> Option<Rows<'_, S>>
+        ensures { elim result [ Some rows ↦ (tabulable S.Alphabet.Q self.now.k self.now.m ≡ true) × (generator_of rows ≡ generator S.Alphabet.Q S.Alphabet.plus S.Alphabet.times self.now.k self.now.m self.now.rows) | None ↦ tabulable S.Alphabet.Q self.now.k self.now.m ≡ false ] }
+    {
+        let messages = message_count::<S>(self.k, self.m)?;
+        Some(Rows {
+            k: self.k,
+            m: self.m,
+            messages,
+            coefficients: &self.rows,
+            symbols: PhantomData,
+        })
+    }
+
     // Fills the table, or leaves it as it was.
     pub fn fill(&mut self, k: usize, m: usize, coefficients: &[u16]) -> Result<(), Refusal>
         ensures is { result ≡ fillable S.Alphabet.Q k m coefficients.now }
         ensures table { elim result [ Ok u ↦ (self.new.k ≡ k) × (self.new.m ≡ m) × (self.new.rows ≡ coefficients.now ++ replicate (128 - k * m) 0) | Err e ↦ self.new ≡ self.old ] }
     {
-        if !is_tabulable::<S>(k, m) {
+        if message_count::<S>(k, m).is_none() {
             return Err(Reason::Unset.at(0));
         }
         if coefficients.len() != k * m {
