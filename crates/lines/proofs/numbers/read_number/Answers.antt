@@ -1,8 +1,8 @@
-use Rattle.std.proofs.Common.{◌≡◌, ◌<◌, length, get_or, take, arith, rules, tests}
+use Rattle.std.proofs.Common.{◌≡◌, ◌<◌, length, get_or, take, arith, rules}
 use Rattle.std.proofs.lemmas.List.{take_all}
+use Rattle.std.proofs.lemmas.Bool.Decides.{nat_tests}
 use Rattle.lines.proofs.Numerals.{numeral_long, numeral_led, numeral-digit, step, converted}
 use Rattle.lines.proofs.numbers.read_number.Goals as goal
-use Rattle.lines.proofs.numbers.read_number.Goals.{then-field-lt2, else-field-lt2+in_default-1}
 
 pub returns-then-is_empty : goal.returns-then-is_empty
 returns-then-is_empty c = λ n h. let l = numeral_long c.args.field.now n h in grind arith
@@ -26,6 +26,5 @@ returns c =
     let i = c.loop-b.invariant in
     let whole : take c.loop-b.b-index c.args.field.now ≡ c.args.field.now = take_all c.loop-b.b-index c.args.field.now c.loop-b-test.false in
     let some : 0 < length c.args.field.now = grind arith in
-    let led : get_or c.args.field.now 0 0 ≡ 48 → length c.args.field.now ≡ 1 =
-    λ z. elim c.if-field-lt2.branch [ then-field-lt2 w ↦ search (rules, tests) | else-field-lt2+in_default-1 w ↦ search (rules, tests) ] in
+    let led : get_or c.args.field.now 0 0 ≡ 48 → length c.args.field.now ≡ 1 = λ z. grind (arith, nat_tests) in
     rw c.ok.ensures.value (converted c.args.field.now c.loop-b.n c.try_from.result c.try_from.ensures (rw whole at i.value) (rw whole at i.digits) some led)
