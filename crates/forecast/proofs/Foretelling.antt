@@ -1,6 +1,6 @@
 -- A word that costs less than the distance comes back from every read, and one at the distance from none. Assumes nothing.
-use Rattle.std.proofs.Common.{◌≡◌, ℕ, ◌<◌, ◌≤◌, eqb, ltb, List, length, get_or, Ok, Err, Result, sym, ap, ◌∙◌, subst, ap₂, inl, inr, arith}
-use Rattle.std.proofs.lemmas.Bool.{cases_eq, cases_lt, cond-true, cond-false, eq-eqb, ne_eqb, lt-ltb, le-ltb}
+use Rattle.std.proofs.Common.{◌≡◌, ℕ, ◌<◌, List, length, get_or, Ok, Err, Result, sym, ap, ◌∙◌, subst, ap₂, inl, inr, arith}
+use Rattle.std.proofs.lemmas.Bool.{cases_eq, cases_lt, eq-eqb, ne_eqb, lt-ltb, le-ltb}
 use Rattle.code.specs.declared.cells.Counts.{Counts}
 use Rattle.code.specs.declared.refusals.Reason.TheVariants.{Lost}
 use Rattle.code.specs.declared.refusals.Refusal.{Refusal}
@@ -10,9 +10,8 @@ use Rattle.code.specs.Refusals.{Verdict, refusal}
 use Rattle.code.specs.Calls.{found, reads, read_checks, Reads}
 use Rattle.code.proofs.Costs.{at_reach}
 use Rattle.code.proofs.Rows.{equal_or_not, is_listed}
-use Rattle.forecast.specs.declared.Forecast.{Forecast}
 use Rattle.forecast.specs.declared.Forecast.TheVariants.{Returns, GetsLost}
-use Rattle.forecast.specs.Forecasts.{forecast, foreseen, Returned, Foretells}
+use Rattle.forecast.specs.Forecasts.{forecast, Returned, Foretells}
 
 -- what stands at the message places of a word is the message that it carries
 pub restored : (l : Layout) (m w : List ℕ) → length m ≡ l.k → Carries l m w → taken l w ≡ m
@@ -50,21 +49,10 @@ module _ (b : Codebook) (apart : Apart b) (l : Layout) (w r : List ℕ) (word : 
   pub foretold : Foretells b l w r (forecast (cost r w) b.d)
   foretold =
       let c : ℕ = cost r w in
-      let d : ℕ = b.d in
-      elim (cases_lt c d) [
-        | inl less ↦ subst (Foretells b l w r) (sym (cond-true (ltb c d) _ _ (lt-ltb c d less))) (returns less)
-        | inr most ↦
-            subst (Foretells b l w r) (sym (cond-false (ltb c d) _ _ (le-ltb c d most)))
-            (elim (cases_eq c d) [
-              | inl e ↦ subst (Foretells b l w r) (sym (cond-true (eqb c d) _ _ (eq-eqb c d e))) (gets_lost e)
-              | inr ne ↦ subst (Foretells b l w r) (sym (cond-false (eqb c d) _ _ (ne_eqb c d ne))) (λ a a' k k' res passed h. tt)
-            ])
+      elim (cases_lt c b.d) [
+        | inl less ↦ rw (lt-ltb c b.d less) (returns less)
+        | inr most ↦ elim (cases_eq c b.d) [
+          | inl e ↦ rw (le-ltb c b.d most, eq-eqb c b.d e) (gets_lost e)
+          | inr ne ↦ rw (le-ltb c b.d most, ne_eqb c b.d ne) (λ a a' k k' res passed h. tt)
+        ]
       ]
-
--- sizes that fit leave the forecast of the cost
-pub sizes_fit : (n d : ℕ) (w r : List ℕ) (f : Forecast) → n ≤ 4096 → length w ≡ n → length r ≡ n → f ≡ forecast (cost r w) d → Ok f ≡ foreseen n d w r
-sizes_fit n d w r f short ew er ef =
-    ap Ok ef
-    ∙ sym (cond-true (eqb (length r) n) _ _ (eq-eqb (length r) n er))
-    ∙ sym (cond-true (eqb (length w) n) _ _ (eq-eqb (length w) n ew))
-    ∙ sym (cond-false (ltb 4096 n) _ _ (le-ltb 4096 n short))

@@ -5,8 +5,9 @@ ghost use Rattle.std.specs.Prelude.{◌≡◌, IfOk};
 ghost use Rattle.forecast.specs.Forecasts.{forecast, foreseen, Foretells};
 
 use code::{Code, MAX_LENGTH, Reason, Refusal, count};
+use std::cmp::Ordering;
 
-#[derive(Clone, Copy)]
+#[derive(Clone, Copy, PartialEq, Eq, Debug)]
 pub enum Forecast {
     // the read hands over the printed word
     Returns,
@@ -19,12 +20,10 @@ pub enum Forecast {
 fn forecast_at(cost: usize, d: usize) -> Forecast
     ensures { result ≡ forecast cost d }
 {
-    if cost < d {
-        Forecast::Returns
-    } else if cost == d {
-        Forecast::GetsLost
-    } else {
-        Forecast::Uncertain
+    match cost.cmp(&d) {
+        Ordering::Less => Forecast::Returns,
+        Ordering::Equal => Forecast::GetsLost,
+        Ordering::Greater => Forecast::Uncertain,
     }
 }
 

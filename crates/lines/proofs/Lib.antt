@@ -1,4 +1,3 @@
 -- The lemmas of this crate.
 pub mod Numerals
 pub mod Cutting
-pub mod Naming

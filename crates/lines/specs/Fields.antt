@@ -1,5 +1,6 @@
 -- The fields of a line, and the numbers that they write. Assumes nothing.
 use Rattle.std.specs.Prelude.{◌≡◌, ℕ, suc, ◌≤◌, Bool, true, cond, ◌&&◌, List, [], ◌∷◌, length, Some, None, Ok, Err, decimal, Option, Result, ◌==◌, nat_le, slice_index}
+use Rattle.std.specs.Borrow.{Bor}
 use Rattle.std.specs.Str.Parse.{digits_value}
 use Rattle.std.specs.Str.{all_ascii_digits}
 use Rattle.code.specs.declared.refusals.Reason.TheVariants.{Garbled}
@@ -15,6 +16,11 @@ onto b (f ∷ fs) = (b ∷ f) ∷ fs
 abbrev pub fields : List ℕ → List (List ℕ)
 fields [] = [] ∷ []
 fields (b ∷ bs) = cond (b == 9) ([] ∷ fields bs) (onto b (fields bs))
+
+-- the fields of what follows a tab, if something does
+abbrev pub others : Option (Bor (List ℕ)) → List (List ℕ)
+others None = []
+others (Some rest) = fields rest.now
 
 -- how many bytes stand before the first mark, or all
 abbrev pub till : ℕ → List ℕ → ℕ

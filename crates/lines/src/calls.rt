@@ -1,9 +1,9 @@
 // Calls: the lines P place symbol, B place, W and R.
-ghost use Rattle.std.specs.Prelude.{◌≡◌, ◌<◌, []};
-ghost use Rattle.lines.specs.Fields.{fields};
+ghost use Rattle.std.specs.Prelude.{◌≡◌, ◌<◌};
+ghost use Rattle.lines.specs.Fields.{fields, others};
 ghost use Rattle.lines.specs.Calls.{last_number, put_asked, commanded, asked};
 
-use crate::cuts::find_byte;
+use crate::cuts::{check_end, split_field};
 use crate::numbers::number_at;
 use code::{Reason, Refusal};
 use sheet::Call;
@@ -15,11 +15,9 @@ fn last_at(rest: &[u8], at: usize) -> Result<u16, Refusal>
     requires { at < 9 }
     ensures { result ≡ last_number at (fields rest.now) }
 {
-    let end = find_byte(b'\t', rest);
-    let n = number_at(&rest[0..end], at)?;
-    if end < rest.len() {
-        return Err(Reason::Garbled.at(at + 1));
-    }
+    let (field, more) = split_field(rest);
+    let n = number_at(field, at)?;
+    check_end(more, at + 1)?;
     Ok(n)
 }
 
@@ -27,45 +25,30 @@ fn last_at(rest: &[u8], at: usize) -> Result<u16, Refusal>
 fn parse_put(rest: &[u8]) -> Result<Call, Refusal>
     ensures { result ≡ put_asked (fields rest.now) }
 {
-    let end = find_byte(b'\t', rest);
-    let place = number_at(&rest[0..end], 2)?;
-    match &rest[end..] {
-        [b'\t', more @ ..] => {
-            let symbol = last_at(more, 3)?;
-            Ok(Call::Put {
-                place: usize::from(place),
-                symbol,
-            })
-        }
-        _ => Err(Reason::Garbled.at(3)),
-    }
+    let (field, more) = split_field(rest);
+    let place = number_at(field, 2)?;
+    let more = more.ok_or(Reason::Garbled.at(3))?;
+    let symbol = last_at(more, 3)?;
+    Ok(Call::Put {
+        place: usize::from(place),
+        symbol,
+    })
 }
 
-// What a line asks for whose command has fields after it.
-fn parse_long(command: char, rest: &[u8]) -> Result<Call, Refusal>
-    ensures { result ≡ commanded command (fields rest.now) }
+// What a line asks for by its command, and by what follows the command's tab, if it has one.
+fn parse_command(command: char, rest: Option<&[u8]>) -> Result<Call, Refusal>
+    ensures { result ≡ commanded command (others rest.entry) }
 {
     match command {
-        'P' => parse_put(rest),
+        'P' => parse_put(rest.ok_or(Reason::Garbled.at(2))?),
         'B' => {
-            let place = last_at(rest, 2)?;
+            let place = last_at(rest.ok_or(Reason::Garbled.at(2))?, 2)?;
             Ok(Call::Blot {
                 place: usize::from(place),
             })
         }
-        'W' | 'R' => Err(Reason::Garbled.at(2)),
-        _ => Err(Reason::Garbled.at(1)),
-    }
-}
-
-// What a line asks for that is a command alone.
-fn parse_short(command: char) -> Result<Call, Refusal>
-    ensures { result ≡ commanded command [] }
-{
-    match command {
-        'W' => Ok(Call::Wipe),
-        'R' => Ok(Call::Read),
-        'P' | 'B' => Err(Reason::Garbled.at(2)),
+        'W' => check_end(rest, 2).map(|()| Call::Wipe),
+        'R' => check_end(rest, 2).map(|()| Call::Read),
         _ => Err(Reason::Garbled.at(1)),
     }
 }
@@ -78,8 +61,8 @@ pub fn parse_call(line: &[u8]) -> Result<Call, Refusal>
         return Err(Reason::Garbled.at(0));
     }
     match line {
-        [command, b'\t', rest @ ..] => parse_long(char::from(*command), rest),
-        [command] => parse_short(char::from(*command)),
+        [command, b'\t', rest @ ..] => parse_command(char::from(*command), Some(rest)),
+        [command] => parse_command(char::from(*command), None),
         _ => Err(Reason::Garbled.at(1)),
     }
 }

@@ -11,29 +11,22 @@ fn read_number(field: &[u8]) -> Option<u16>
     if field.is_empty() || field.len() > 5 {
         return None;
     }
-    if field[0] == b'0' && field.len() > 1 {
+    if let [b'0', _, ..] = field {
         return None;
     }
     let mut n: u32 = 0;
-    for i in 0..field.len() {
-        let b = field[i];
-        if b < b'0' || b > b'9' {
+    for b in field {
+        if !b.is_ascii_digit() {
             return None;
         }
         n = n * 10 + u32::from(b - b'0');
     }
-    if n > 65535 {
-        return None;
-    }
-    Some(n as u16)
+    u16::try_from(n).ok()
 }
 
 // The number that a field writes, given the field's own number for the refusal.
 pub(crate) fn number_at(field: &[u8], at: usize) -> Result<u16, Refusal>
     ensures { result ≡ number_at at field.now }
 {
-    let Some(n) = read_number(field) else {
-        return Err(Reason::Garbled.at(at));
-    };
-    Ok(n)
+    read_number(field).ok_or(Reason::Garbled.at(at))
 }

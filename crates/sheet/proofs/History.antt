@@ -7,8 +7,10 @@ use Rattle.std.proofs.lemmas.Bool.Decides.{nat_tests}
 use Rattle.code.specs.Cells.{blank}
 use Rattle.sheet.specs.declared.calls.Call.{Call}
 use Rattle.sheet.specs.declared.calls.Call.TheVariants.{Put, Blot, Wipe, Read}
-use Rattle.sheet.specs.Marks.{Writes, Spares, Quiet, Stands, Stands.written, Stands.wiped, Stands.unmarked, Marks}
+use Rattle.sheet.specs.Marks.{Writes, Spares, Quiet, Stands, Stands.written, Stands.wiped, Stands.unmarked, Marks, Marked}
+use Rattle.sheet.specs.declared.marks.Sheet.{Sheet}
 use Rattle.sheet.specs.Runs.{putting, blotting, left}
+use Rattle.sheet.specs.Sheets.{symbols, places, all_cells, marks, Becomes}
 
 module _ (q n : ℕ) where
   quiet_more : (p : ℕ) (cs : List Call) (c : Call) → Quiet q n p cs → Spares q n p c → Quiet q n p (cs ++ (c ∷ []))
@@ -97,9 +99,15 @@ module _ (q n : ℕ) where
   one_more h Wipe xs fits m = all_wiped h (take n (replicate n blank ++ drop n xs)) (take_at (replicate n blank) (drop n xs) n (length-replicate n blank))
   one_more h Read xs fits m = all_spared h (take n xs) Read (λ p lt. tt) m
 
-  pub called : (h : List Call) (c : Call) (xs ys : List ℕ) → n ≤ length xs → ys ≡ left q n c xs → Marks q n h (take n xs) → Marks q n (h ++ (c ∷ [])) (take n ys)
-  called h c xs ys fits e m = subst (λ (zs : List ℕ). Marks q n (h ++ (c ∷ [])) (take n zs)) (sym e) (one_more h c xs fits m)
+  pub marked : (h : List Call) (c : Call) (xs ys : List ℕ) → n ≤ length xs → ys ≡ left q n c xs → Marks q n h (take n xs) → Marks q n (h ++ (c ∷ [])) (take n ys)
+  marked h c xs ys fits e m = rw e (one_more h c xs fits m)
 
   -- a sheet right after its opening over the cells xs
   pub fresh : (xs ys : List ℕ) → ys ≡ left q n Wipe xs → Marks q n [] (take n ys)
   fresh xs ys e = none_made (take n ys) (ap (take n) e ∙ take_at (replicate n blank) (drop n xs) n (length-replicate n blank))
+
+-- the marks of a sheet that becomes another by a call
+pub called : (c : Call) (s t : Sheet) → Becomes c s t → Marked (symbols s) (places s) c (marks s) (marks t)
+called c s t b h m =
+    let e : marks t ≡ take (places s) (all_cells t) = ap (λ (n : ℕ). take n (all_cells t)) b.same.n in
+    rw e (marked (symbols s) (places s) h c (all_cells s) (all_cells t) s.within b.leaves m)

@@ -8,8 +8,15 @@ use Rattle.sheet.specs.declared.calls.Call.{Call}
 use Rattle.sheet.specs.declared.calls.Call.TheVariants.{Put, Blot, Wipe, Read}
 use Rattle.sheet.specs.declared.calls.Step.{Step}
 use Rattle.sheet.specs.Marks.{Marks}
-use Rattle.sheet.specs.Runs.{Verdict, Outcome, putting, blotting, made_calls, left, lefts, Goes, GoesAfter, Worked, runs, works}
-use Rattle.sheet.proofs.History.{fresh}
+use Rattle.sheet.proofs.Openings.{opened_full, opening_fits}
+use Rattle.sheet.specs.Runs.{opening, Verdict, Outcome, putting, blotting, made_calls, left, lefts, Goes, GoesAfter, Worked, runs, works}
+use Rattle.sheet.specs.declared.marks.Sheet.{Sheet}
+use Rattle.sheet.specs.Sheets.{symbols, places, all_cells, marks, Opened, Same, Becomes}
+use Rattle.sheet.proofs.History.{marked, fresh}
+
+-- what stays the same at two calls
+pub same_on : (r s t : Sheet) → Same r s → Same s t → Same r t
+same_on r s t a b = record { q = b.q ∙ a.q; n = b.n ∙ a.n; lent = b.lent ∙ a.lent }
 
 lefts_more : (q n : ℕ) (cs : List Call) (c : Call) (xs : List ℕ) → lefts q n (cs ++ (c ∷ [])) xs ≡ left q n c (lefts q n cs xs)
 lefts_more q n [] c xs = refl
@@ -82,32 +89,35 @@ module _ {C : Type 0} (book : C → Codebook) where
         ),
   )
 
-  pub one_step_more : (q n q' n' : ℕ) → q' ≡ q → n' ≡ n → (ss : List (Step C)) (i : ℕ) (s : Step C) → i < length ss → s ≡ get_or ss i s
-      → (os₀ os : List Outcome) → i < length os → (o : Outcome) (xs ys zs a b a' k l k' : List ℕ)
-      → runs (Ok tt) book q n (take i ss) xs ys os₀ (take i os) a b k l
-      → zs ≡ left q' n' s.call ys
-      → ((h : List Call) → Marks q' n' h (take n' ys) → Marks q' n' (h ++ (s.call ∷ [])) (take n' zs))
-      → Goes (book s.code.now) q' n' (take n' ys) s.call o b a' l k'
-      → runs (Ok tt) book q n (take (i + 1) ss) xs zs os₀ (take (i + 1) (set os i o)) a a' k k'
+  pub one_step_more : (first s t : Sheet) → Same first s → (ss : List (Step C)) (i : ℕ) (step : Step C) → i < length ss → step ≡ get_or ss i step
+      → (os₀ os : List Outcome) → i < length os → (o : Outcome) (a b a' k l k' : List ℕ)
+      → runs (Ok tt) book (symbols first) (places first) (take i ss) (all_cells first) (all_cells s) os₀ (take i os) a b k l
+      → Becomes step.call s t
+      → Goes (book step.code.now) (symbols s) (places s) (marks s) step.call o b a' l k'
+      → runs (Ok tt) book (symbols first) (places first) (take (i + 1) ss) (all_cells first) (all_cells t) os₀ (take (i + 1) (set os i o)) a a' k k'
   unfolding Turn
-  one_step_more q n q' n' eq en ss i s inside is os₀ os room o xs ys zs a b a' k l k' r cells history goes =
-      let turn : Turn q n s o ys zs b a' l k' =
-      subst (λ (y : ℕ). Turn q y s o ys zs b a' l k') en (subst (λ (x : ℕ). Turn x n' s o ys zs b a' l k') eq (cells, history, goes)) in
-      let steps : take (i + 1) ss ≡ take i ss ++ (s ∷ []) = take_more ss i s inside ∙ ap (λ (t : Step C). take i ss ++ (t ∷ [])) (sym is) in
-      subst (λ (ps : List Outcome). runs (Ok tt) book q n (take (i + 1) ss) xs zs os₀ ps a a' k k') (sym (take_more_set os i o room))
-      (subst (λ (ts : List (Step C)). runs (Ok tt) book q n ts xs zs os₀ (take i os ++ (o ∷ [])) a a' k k') (sym steps)
-      (runs-more q n (take i ss) s os₀ (take i os) o xs ys zs a b a' k l k' r turn))
+  one_step_more first s t same ss i step inside is os₀ os room o a b a' k l k' r becomes goes =
+      let q : ℕ = symbols first in
+      let n : ℕ = places first in
+      let turn : Turn q n step o (all_cells s) (all_cells t) b a' l k' =
+      subst (λ (y : ℕ). Turn q y step o (all_cells s) (all_cells t) b a' l k') same.n
+      (subst (λ (x : ℕ). Turn x (places s) step o (all_cells s) (all_cells t) b a' l k') same.q
+      (becomes.leaves, λ h m. marked (symbols s) (places s) h step.call (all_cells s) (all_cells t) s.within becomes.leaves m, goes)) in
+      let steps : take (i + 1) ss ≡ take i ss ++ (step ∷ []) = take_more ss i step inside ∙ ap (λ (t : Step C). take i ss ++ (t ∷ [])) (sym is) in
+      rw (take_more_set os i o room, steps) (runs-more q n (take i ss) step os₀ (take i os) o (all_cells first) (all_cells s) (all_cells t) a b a' k l k' r turn)
 
-  -- a run right after the opening over the cells xs, which are all taken
-  pub from_opening : (q n q' n' : ℕ) → q' ≡ q → n' ≡ n → (ss : List (Step C)) (xs bs ys zs : List ℕ) (os os' : List Outcome) (a a' k k' : List ℕ) (v : Verdict)
-      → v ≡ Ok tt → length xs ≡ n → bs ≡ left q' n' Wipe xs → zs ≡ ys → runs v book q' n' ss bs ys os os' a a' k k' → works v book q n ss xs zs os os' a a' k k'
-  from_opening q n q' n' eq en ss xs bs ys zs os os' a a' k k' v ok long open_is e =
-      let blanked : List ℕ = left q' n' Wipe xs in
-      let first : Marks q' n' [] (take n' blanked) = fresh q' n' xs blanked refl in
-      subst (λ (ws : List ℕ). runs v book q' n' ss ws ys os os' a a' k k' → works v book q n ss xs zs os os' a a' k k') (sym open_is)
-      (subst (λ (w : Verdict). runs w book q' n' ss blanked ys os os' a a' k k' → works w book q n ss xs zs os os' a a' k k') (sym ok)
-      (λ r.
-      let sized : length ys ≤ n' = omega (arith, ap length r.0, length-lefts q' n' (made_calls ss) blanked, length-left q' n' Wipe xs) in
-      let last : Marks q' n' (made_calls ss) ys = subst (λ (ws : List ℕ). Marks q' n' (made_calls ss) ws) (take_all n' ys sized) (r.1 [] first).0 in
+  -- a run from the opening on, over the cells xs, which are all taken, and which end as zs
+  pub from_opening : (b : Codebook) (s t : Sheet) (xs zs : List ℕ) → opening b.n b.working (length xs) ≡ Ok tt → Opened b xs s → zs ≡ all_cells t
+      → (ss : List (Step C)) (os os' : List Outcome) (a a' k k' : List ℕ) (v : Verdict) → v ≡ Ok tt
+      → runs v book (symbols s) (places s) ss (all_cells s) (all_cells t) os os' a a' k k' → works v book b.q b.n ss xs zs os os' a a' k k'
+  from_opening b s t xs zs accepted new ends ss os os' a a' k k' v ok ran =
+      let q : ℕ = symbols s in
+      let n : ℕ = places s in
+      let long : length xs ≡ b.n = opening_fits b.n b.working (length xs) accepted in
+      let all : n ≡ b.n = new.n ∙ opened_full b.n b.working (length xs) accepted in
+      let run : runs (Ok tt) book q n ss (all_cells s) (all_cells t) os os' a a' k k' = rw ok at ran in
+      let begun : Marks q n [] (take n (all_cells s)) = fresh q n xs (all_cells s) new.wiped in
+      let sized : length (all_cells t) ≤ n = omega (arith, ap length run.0, length-lefts q n (made_calls ss) (all_cells s), ap length new.wiped, length-left q n Wipe xs) in
+      let ended : Marks q n (made_calls ss) (all_cells t) = rw (take_all n (all_cells t) sized) at (run.1 [] begun).0 in
       let Both : ℕ → ℕ → Type 0 = λ x y. Marks x y (made_calls ss) zs × Worked book x y [] ss os' a a' k k' in
-      subst (λ (y : ℕ). Both q y) en (subst (λ (x : ℕ). Both x n') eq (subst (λ (ws : List ℕ). Marks q' n' (made_calls ss) ws) (sym e) last, (r.1 [] first).1))))
+      rw ok (subst (λ (y : ℕ). Both b.q y) all (subst (λ (x : ℕ). Both x n) new.q (rw ends ended, (run.1 [] begun).1)))

@@ -2,7 +2,7 @@
 use crate::faults::Fault;
 use code::Counts;
 
-#[derive(Clone, Copy)]
+#[derive(Clone, Copy, PartialEq, Eq, Debug)]
 pub enum Call {
     Put { place: usize, symbol: u16 },
     Blot { place: usize },

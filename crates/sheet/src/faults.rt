@@ -5,7 +5,7 @@ ghost use Rattle.sheet.specs.Faults.{layer, refused};
 
 use code::Refusal;
 
-#[derive(Clone, Copy)]
+#[derive(Clone, Copy, PartialEq, Eq, Debug)]
 pub enum Fault {
     // the code that was given to a read refused it
     Code(Refusal),
@@ -27,8 +27,7 @@ impl Fault {
         ensures { result ≡ refused self }
     {
         match self {
-            Fault::Code(refusal) => refusal,
-            Fault::Sheet(refusal) => refusal,
+            Fault::Code(refusal) | Fault::Sheet(refusal) => refusal,
         }
     }
 }

@@ -1,12 +1,13 @@
 // Runs: whole lists of calls on one sheet, each read judging the marks that stand when its turn comes.
-ghost use Rattle.std.specs.Prelude.{◌≡◌, length, take, OnOk};
+ghost use Rattle.std.specs.Prelude.{◌≡◌, length, OnOk};
 ghost use Rattle.sheet.specs.Marks.{Marked, OneRowStands};
-ghost use Rattle.sheet.specs.Runs.{opening, left, marking, reading, Goes, noting, runs, works, then};
+ghost use Rattle.sheet.specs.Runs.{opening, Goes, noting, runs, works, then};
+ghost use Rattle.sheet.specs.Sheets.{symbols, places, all_cells, marks, Same, Becomes};
 
 use crate::calls::{Call, Outcome, Step};
 use crate::faults::Fault;
 use crate::marks::Sheet;
-use code::{Code, Counts, Reason};
+use code::{Code, Reason};
 
 fn check_outcomes<C>(steps: &[Step<'_, C>], outcomes: &[Outcome]) -> Result<(), Fault>
     ensures is { result ≡ noting (length steps.now) (length outcomes.now) }
@@ -18,20 +19,6 @@ fn check_outcomes<C>(steps: &[Step<'_, C>], outcomes: &[Outcome]) -> Result<(), 
     Ok(())
 }
 
-fn note_mark(verdict: Result<(), Fault>) -> Outcome
-    ensures { result ≡ marking verdict }
-{
-    verdict?;
-    Ok(None)
-}
-
-fn note_read(verdict: Result<Counts, Fault>) -> Outcome
-    ensures { result ≡ reading verdict }
-{
-    let counts = verdict?;
-    Ok(Some(counts))
-}
-
 impl Sheet<'_> {
     // Makes one call, and says how it went. The code is the one that a read is by.
     pub fn call<C: Code>(
@@ -41,20 +28,18 @@ impl Sheet<'_> {
         answer: &mut [u16],
         work: &mut [u16],
     ) -> Outcome
-        ensures goes { Goes (C.Code.codebook code.now) self.old.q self.old.n (take self.old.n self.old.cells.now) call result answer.old answer.new work.old work.new }
-        ensures cells { self.new.cells.now ≡ left self.old.q self.old.n call self.old.cells.now }
-        ensures history { Marked self.old.q self.old.n call (take self.old.n self.old.cells.now) (take self.old.n self.new.cells.now) }
-        ensures kept { (self.new.q ≡ self.old.q) × (self.new.n ≡ self.old.n) }
-        ensures lender { self.new.cells.ghost_name ≡ self.old.cells.ghost_name }
+        ensures goes { Goes (C.Code.codebook code.now) (symbols self.old) (places self.old) (marks self.old) call result answer.old answer.new work.old work.new }
+        ensures becomes { Becomes call self.old self.new }
+        ensures history { Marked (symbols self.old) (places self.old) call (marks self.old) (marks self.new) }
     {
         match call {
-            Call::Put { place, symbol } => note_mark(self.put(place, symbol)),
-            Call::Blot { place } => note_mark(self.blot(place)),
+            Call::Put { place, symbol } => self.put(place, symbol).map(|()| None),
+            Call::Blot { place } => self.blot(place).map(|()| None),
             Call::Wipe => {
                 self.wipe();
                 Ok(None)
             }
-            Call::Read => note_read(self.read(code, answer, work)),
+            Call::Read => self.read(code, answer, work).map(Some),
         }
     }
 
@@ -67,9 +52,8 @@ impl Sheet<'_> {
         work: &mut [u16],
     ) -> Result<(), Fault>
         ensures is { result ≡ noting (length steps.now) (length outcomes.old) }
-        ensures ran { runs result C.Code.codebook self.old.q self.old.n steps.now self.old.cells.now self.new.cells.now outcomes.old outcomes.new answer.old answer.new work.old work.new }
-        ensures kept { (self.new.q ≡ self.old.q) × (self.new.n ≡ self.old.n) }
-        ensures lender { self.new.cells.ghost_name ≡ self.old.cells.ghost_name }
+        ensures ran { runs result C.Code.codebook (symbols self.old) (places self.old) steps.now (all_cells self.old) (all_cells self.new) outcomes.old outcomes.new answer.old answer.new work.old work.new }
+        ensures same { Same self.old self.new }
     {
         check_outcomes(steps, outcomes)?;
         for (i, step) in steps.iter().enumerate() {

@@ -1,22 +1,11 @@
-use Rattle.std.proofs.Common.{◌≡◌, suc, ◌+◌, cond, eqb, get_or, drop, arith}
-use Rattle.std.proofs.lemmas.Bool.Decides.{nat_tests}
-use Rattle.std.proofs.lemmas.List.{at_drop_more, at_drop_all}
-use Rattle.lines.specs.Fields.{till}
+use Rattle.std.proofs.Common.{◌≡◌, ◌==◌, position, rules, tests}
+use Rattle.std.proofs.lemmas.Iterator.{YieldsList-from_slice}
+use Rattle.std.proofs.lemmas.Iterator.Search.{position_from_yields_List}
+use Rattle.lines.proofs.Cutting.{till_is}
 use Rattle.lines.proofs.cuts.find_byte.Goals as goal
 
-pub returns-then-b-mark : goal.returns-then-b-mark
-returns-then-b-mark c =
-    let e : till c.args.mark (drop c.loop-i.i c.args.bytes.now) ≡ cond (eqb (get_or c.args.bytes.now c.loop-i.i 0) c.args.mark) 0 (suc (till c.args.mark (drop (c.loop-i.i + 1) c.args.bytes.now)))
-    = at_drop_more (till c.args.mark) c.args.bytes.now c.loop-i.i 0 (omega arith) in
-    record { within = omega arith; first = grind (arith, nat_tests) }
-
-pub loop-i-preserved : goal.loop-i-preserved
-loop-i-preserved c =
-    let e : till c.args.mark (drop c.loop-i.i c.args.bytes.now) ≡ cond (eqb (get_or c.args.bytes.now c.loop-i.i 0) c.args.mark) 0 (suc (till c.args.mark (drop (c.loop-i.i + 1) c.args.bytes.now)))
-    = at_drop_more (till c.args.mark) c.args.bytes.now c.loop-i.i 0 (omega arith) in
-    grind (arith, nat_tests)
-
-pub returns : goal.returns
-returns c =
-    let e : till c.args.mark (drop c.loop-i.i c.args.bytes.now) ≡ 0 = at_drop_all (till c.args.mark) c.args.bytes.now c.loop-i.i (omega arith) in
-    record { within = omega arith; first = omega arith }
+pub returns-clause-first : goal.returns-clause-first
+returns-clause-first c =
+    let p : c.position.result ≡ position (λ b. b == c.args.mark) c.args.bytes.now =
+    position_from_yields_List (λ b. b == c.args.mark) _ _ _ c.position.ensures.ran (YieldsList-from_slice c.args.bytes.now cc) (λ x b q k. search (rules, tests)) in
+    rw (c.unwrap_or.ensures, p) (till_is c.args.mark c.args.bytes.now)

@@ -1,38 +1,30 @@
-use Rattle.std.proofs.Common.{◌≡◌, ℕ, ◌<◌, List, length, take, refl, ap, ◌∙◌, subst, arith}
-use Rattle.std.specs.Str.Parse.{AllDigits, digits_value}
+use Rattle.std.proofs.Common.{◌≡◌, ◌<◌, length, get_or, take, arith, rules}
 use Rattle.std.proofs.lemmas.List.{take_all}
-use Rattle.lines.proofs.Numerals.{numeral_long, numeral_led, numeral-digit, numeral_value, numeral_read, ten_five, step}
+use Rattle.std.proofs.lemmas.Bool.Decides.{nat_tests}
+use Rattle.lines.proofs.Numerals.{numeral_long, numeral_led, numeral-digit, step, converted}
 use Rattle.lines.proofs.numbers.read_number.Goals as goal
 
 pub returns-then-is_empty : goal.returns-then-is_empty
 returns-then-is_empty c = λ n h. let l = numeral_long c.args.field.now n h in grind arith
 
-pub returns-then-field-gt1 : goal.returns-then-field-gt1
-returns-then-field-gt1 c = λ n h. omega (arith, numeral_led c.args.field.now n h c.if-field-eq48.true)
+pub returns-in-48 : goal.returns-in-48
+returns-in-48 c = λ n h. let z : get_or c.args.field.now 0 0 ≡ 48 = search rules in omega (arith, numeral_led c.args.field.now n h z)
 
-pub loop-i-init : goal.loop-i-init
-loop-i-init c = (refl, tt, omega arith)
+pub returns-then-not-is_ascii_digit : goal.returns-then-not-is_ascii_digit
+returns-then-not-is_ascii_digit c = λ n h.
+    let none = c.if-not-is_ascii_digit.ensures.cases in
+    omega (arith, numeral-digit c.args.field.now n c.loop-b.b-index h c.loop-b-test.true)
 
-pub returns-then-b-lt48 : goal.returns-then-b-lt48
-returns-then-b-lt48 c = λ n h. let d = numeral-digit c.args.field.now n c.loop-i.i h c.loop-i-test.true in grind arith
-
-pub overflow_mul-n : goal.overflow_mul-n
-overflow_mul-n c = omega (arith, ten_five c.loop-i.i (omega arith))
-
-pub overflow_add-n : goal.overflow_add-n
-overflow_add-n c = omega (arith, ten_five c.loop-i.i (omega arith))
-
-pub loop-i-preserved : goal.loop-i-preserved
-loop-i-preserved c =
-    step c.args.field.now c.loop-i.n c.loop-i.i c.from.result c.loop-i-test.true (c.if-b-lt48.false, c.if-b-gt57.false) c.from.ensures
-    c.loop-i.invariant.0 c.loop-i.invariant.1 c.loop-i.invariant.2
-
-pub returns-then-n-gt65535 : goal.returns-then-n-gt65535
-returns-then-n-gt65535 c = λ n h. omega (arith, numeral_value c.args.field.now n h, ap (λ (x : List ℕ). digits_value 10 x) (take_all c.loop-i.i c.args.field.now c.loop-i-test.false))
+pub loop-b-preserved : goal.loop-b-preserved
+loop-b-preserved c =
+    let i = c.loop-b.invariant in
+    let more = step c.args.field.now c.loop-b.n c.loop-b.b-index c.from.result c.loop-b-test.true c.if-not-is_ascii_digit.ensures.cases c.from.ensures i.value i.digits i.small in
+    record { value = more.0; digits = more.1; small = more.2 }
 
 pub returns : goal.returns
 returns c =
-    let whole : take c.loop-i.i c.args.field.now ≡ c.args.field.now = take_all c.loop-i.i c.args.field.now c.loop-i-test.false in
+    let i = c.loop-b.invariant in
+    let whole : take c.loop-b.b-index c.args.field.now ≡ c.args.field.now = take_all c.loop-b.b-index c.args.field.now c.loop-b-test.false in
     let some : 0 < length c.args.field.now = grind arith in
-    numeral_read c.args.field.now c.loop-i.n (subst (λ (x : List ℕ). AllDigits 10 x) whole c.loop-i.invariant.1) some (λ z. grind arith)
-    (c.loop-i.invariant.0 ∙ ap (λ (x : List ℕ). digits_value 10 x) whole) c.if-n-gt65535.false
+    let led : get_or c.args.field.now 0 0 ≡ 48 → length c.args.field.now ≡ 1 = λ z. grind (arith, nat_tests) in
+    rw c.ok.ensures.value (converted c.args.field.now c.loop-b.n c.try_from.result c.try_from.ensures (rw whole at i.value) (rw whole at i.digits) some led)

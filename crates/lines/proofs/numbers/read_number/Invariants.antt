@@ -2,5 +2,10 @@ use Rattle.std.proofs.Common.{◌≡◌, ◌^◌, ◌<◌, take}
 use Rattle.std.specs.Str.Parse.{AllDigits, digits_value}
 use Rattle.lines.proofs.numbers.read_number.Given as goal
 
-abbrev pub invariant-loop-i : goal.invariant-loop-i
-invariant-loop-i l = (l.n ≡ digits_value 10 (take l.i l.field)) × AllDigits 10 (take l.i l.field) × (l.n < 10 ^ l.i)
+abbrev pub invariant-loop-b : goal.invariant-loop-b
+invariant-loop-b l =
+    record {
+      value : l.n ≡ digits_value 10 (take l.b-index l.field);
+      digits : AllDigits 10 (take l.b-index l.field);
+      small : l.n < 10 ^ l.b-index;
+    }
