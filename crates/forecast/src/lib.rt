@@ -39,5 +39,5 @@ pub fn foresee<C: Code>(code: &C, printed: &[u16], received: &[u16]) -> Result<F
         return Err(Reason::Misfit.at(0));
     }
     let counts = count(received, printed)?;
-    Ok(forecast_at(2 * counts.wrong + counts.blank, code.distance()))
+    Ok(forecast_at(counts.cost(), code.distance()))
 }

@@ -53,7 +53,7 @@ impl<S: Alphabet> Rows<'_, S> {
         let mut buffer = [0; MAX_WORD];
         let nearest = &mut buffer[..self.length()];
         let survey = self.survey(received, word, nearest);
-        if 2 * survey.counts.wrong + survey.counts.blank >= survey.distance {
+        if survey.counts.cost() >= survey.distance {
             return Err(Reason::Lost.at(0));
         }
         answer.copy_from_slice(nearest);

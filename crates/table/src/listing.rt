@@ -91,7 +91,7 @@ impl<S: Alphabet> Rows<'_, S> {
             self.advance(word);
             distance = distance.min(weigh(word));
             let tried = compare(received, word);
-            if 2 * tried.wrong + tried.blank < 2 * counts.wrong + counts.blank {
+            if tried.cost() < counts.cost() {
                 counts = tried;
                 nearest.copy_from_slice(word);
             }

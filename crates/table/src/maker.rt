@@ -11,7 +11,7 @@ use std::marker::PhantomData;
 
 // k message symbols, m check symbols, and the k times m coefficients row by row; what stands behind them does not count.
 // Numbers that break a limit mean the trivial code, and a coefficient at or above q counts as its remainder.
-#[derive(Drop)]
+#[derive(Clone, Copy, PartialEq, Eq, Debug, Drop)]
 pub struct Table<S> {
     pub k: usize,
     pub m: usize,

@@ -14,6 +14,6 @@ returns-clause-comes_true g c = λ word.
     let counted = c.in_ok-counts.ensures.is in
     let sized : length r ≡ b.n = omega arith in
     let far : c.distance.result ≡ b.d = omega (arith, apart.short) in
-    let price : 2 * c.in_ok-counts.counts.wrong + c.in_ok-counts.counts.blank ≡ cost r w = omega arith in
+    let price : c.cost.result ≡ cost r w = omega (arith, c.cost.ensures, c.in_ok-counts.ensures.few, counted, apart.short) in
     let is : c.forecast_at.result ≡ forecast (cost r w) b.d = rw (price, far) at c.forecast_at.ensures in
     rw is (foretold b apart l w r word sized)

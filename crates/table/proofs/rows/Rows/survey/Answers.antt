@@ -4,7 +4,7 @@ use Rattle.table.specs.Rows.{generator_of}
 use Rattle.table.specs.Numbers.{pow_some}
 use Rattle.table.proofs.Surveying.{begun, nearer, kept, surveyed, count-weight}
 use Rattle.table.proofs.rows.Rows.survey.Goals as goal
-use Rattle.table.proofs.rows.Rows.survey.Goals.{then-tried-counts, else-tried-counts}
+use Rattle.table.proofs.rows.Rows.survey.Goals.{then-cost, else-cost}
 
 pub loop-init : goal.loop-init
 loop-init g c =
@@ -25,15 +25,15 @@ loop-preserved g c =
     let moved = c.advance.ensures.next (omega (arith, inv.numbered, c.loop-test.true, c.args.self.now.counted)) in
     let weighs : c.weigh.result ≡ weight next = c.weigh.ensures ∙ count-weight next in
     let told = c.compare-tried.ensures in
-    elim c.if-tried-counts.branch [
-      | then-tried-counts v ↦
+    elim c.if-cost.branch [
+      | then-cost v ↦
           rw (v.nearest-is, v.copy_from_slice.ensures.after, c.min-distance.ensures, v.counts-is)
           (nearer s ring r c.loop.word c.loop.nearest next c.loop.counter c.loop.distance c.weigh.result c.loop.counts inv c.advance.ensures.tabled moved weighs
-          c.compare-tried.result told.wrong told.blank told.few v.if-tried-counts.true)
-      | else-tried-counts v ↦
+          c.compare-tried.result told.wrong told.blank told.few (omega (arith, v.if-cost.true, c.cost.ensures, c.cost-in-loop.ensures, told.few, inv.few, c.requires.received, c.args.self.now.few)))
+      | else-cost v ↦
           rw (v.nearest-is, c.min-distance.ensures, v.counts-is)
           (kept s ring r c.loop.word c.loop.nearest next c.loop.counter c.loop.distance c.weigh.result c.loop.counts inv c.advance.ensures.tabled moved weighs
-          c.compare-tried.result told.wrong told.blank v.if-tried-counts.false)
+          c.compare-tried.result told.wrong told.blank (omega (arith, v.if-cost.false, c.cost.ensures, c.cost-in-loop.ensures, told.few, inv.few, c.requires.received, c.args.self.now.few)))
     ]
 
 pub returns : goal.returns
