@@ -15,7 +15,7 @@ use std::marker::PhantomData;
 pub struct Table<S> {
     pub k: usize,
     pub m: usize,
-    pub rows: [u16; 128],
+    pub rows: [u16; MAX_COEFFICIENTS],
     pub symbols: PhantomData<S>,
 }
 
@@ -24,7 +24,7 @@ impl<S: Alphabet> Table<S> {
     pub const EMPTY: Table<S> = Table {
         k: 0,
         m: 0,
-        rows: [0; 128],
+        rows: [0; MAX_COEFFICIENTS],
         symbols: PhantomData,
     };
 
@@ -47,15 +47,13 @@ impl<S: Alphabet> Table<S> {
         ensures is { result ≡ fillable S.Alphabet.Q k m coefficients.now }
         ensures table { elim result [ Ok u ↦ (self.new.k ≡ k) × (self.new.m ≡ m) × (self.new.rows ≡ coefficients.now ++ replicate (128 - k * m) 0) | Err e ↦ self.new ≡ self.old ] }
     {
-        if message_count::<S>(k, m).is_none() {
-            return Err(Reason::Unset.at(0));
-        }
+        message_count::<S>(k, m).ok_or(Reason::Unset.at(0))?;
         if coefficients.len() != k * m {
             return Err(Reason::Misfit.at(0));
         }
         check_cells(coefficients, S::Q, Content::Word)?;
         let mut rows = [0; MAX_COEFFICIENTS];
-        rows[0..k * m].copy_from_slice(coefficients);
+        rows[..k * m].copy_from_slice(coefficients);
         *self = Table {
             k,
             m,

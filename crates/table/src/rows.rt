@@ -5,16 +5,17 @@ ghost use Rattle.table.specs.Tables.{tabulable};
 use alphabet::Alphabet;
 use std::marker::PhantomData;
 
+// The longest message, the most check symbols, and the most messages.
 const MAX_MESSAGE: usize = 8;
 
-// The most check symbols, messages and coefficients, and the longest word.
-pub(crate) const MAX_CHECKS: usize = 16;
+const MAX_CHECKS: usize = 16;
 
 const MAX_MESSAGES: usize = 65536;
 
-pub(crate) const MAX_COEFFICIENTS: usize = 128;
+// The longest word, and the most coefficients.
+pub(crate) const MAX_WORD: usize = MAX_MESSAGE + MAX_CHECKS;
 
-pub(crate) const MAX_WORD: usize = 24;
+pub(crate) const MAX_COEFFICIENTS: usize = MAX_MESSAGE * MAX_CHECKS;
 
 // How many messages of k symbols there are, where k and m keep their limits.
 pub(crate) fn message_count<S: Alphabet>(k: usize, m: usize) -> Option<usize>
