@@ -4,7 +4,7 @@ ghost use Rattle.std.specs.List.{flat_map};
 ghost use Rattle.job.specs.Answers.{tabbed, printed};
 
 use crate::faults::Fault;
-use code::Counts;
+use code::{Counts, Refusal};
 use std::alloc::AllocError;
 use std::fmt::Write;
 
@@ -15,8 +15,7 @@ pub type Outcome = Result<Option<Counts>, Fault>;
 fn print_symbols(out: &mut String, message: &[u16]) -> Result<(), AllocError>
     ensures { OnOk result (string_bytes out.new ≡ string_bytes out.old ++ flat_map tabbed message.now) }
 {
-    for i in 0..message.len() {
-        let symbol = message[i];
+    for symbol in message {
         write!(out, "\t{symbol}")?;
     }
     Ok(())
@@ -34,20 +33,16 @@ pub(crate) fn print_answer(
 {
     match outcome {
         Ok(None) => Ok(()),
-        Ok(Some(counts)) => {
-            let wrong = counts.wrong;
-            let blank = counts.blank;
+        Ok(Some(Counts { wrong, blank })) => {
             write!(out, "WORD\t{wrong}\t{blank}")?;
             print_symbols(out, message)?;
-            write!(out, "\n")?;
-            Ok(())
+            writeln!(out)
         }
         Err(fault) => {
             let layer = fault.layer();
-            let refusal = fault.refusal();
-            let reason = refusal.reason.number();
-            let place = refusal.place;
-            write!(out, "NO\t{number}\t{layer}\t{reason}\t{place}\n")
+            let Refusal { reason, place } = fault.refusal();
+            let reason = reason.number();
+            writeln!(out, "NO\t{number}\t{layer}\t{reason}\t{place}")
         }
     }
 }
@@ -72,7 +67,7 @@ mod tests {
         print_answer(&mut out, 13, Err(lost), &[])?;
         let wanted =
             "NO\t9\tsheet\t7\t12\nWORD\t0\t5\t1\t2\t3\nNO\t12\ttext\t9\t3\nNO\t13\tcode\t6\t0\n";
-        assert!(rt; out.as_str() == wanted);
+        assert_eq!(rt; out.as_str(), wanted);
         Ok(())
     }
 }

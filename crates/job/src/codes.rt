@@ -22,32 +22,40 @@ fn trip_table() -> Table<Bits>
     table
 }
 
+// A repetition code of n symbols without the maker's test, which could fail: each n below keeps the limits.
+fn repetition_code<S>(n: usize) -> Repetition<S>
+    ensures { result.n ≡ n }
+{
+    Repetition {
+        n,
+        symbols: PhantomData,
+    }
+}
+
+// A sum code of n symbols in the same way.
+fn sum_code<S>(n: usize) -> Sum<S>
+    ensures { result.n ≡ n }
+{
+    Sum {
+        n,
+        symbols: PhantomData,
+    }
+}
+
 pub(crate) fn trip_code() -> Product<Table<Bits>, Sum<Bits>>
     ensures k { result.columns.k ≡ 4 }
     ensures m { result.columns.m ≡ 3 }
     ensures table { result.columns.rows ≡ trip_rows }
     ensures rows { result.rows.n ≡ 4 }
 {
-    let rows = Sum {
-        n: 4,
-        symbols: PhantomData,
-    };
-    Product::new(trip_table(), rows)
+    Product::new(trip_table(), sum_code(4))
 }
 
 pub(crate) fn fare_code() -> Product<Repetition<Digits>, Sum<Digits>>
     ensures columns { result.columns.n ≡ 3 }
     ensures rows { result.rows.n ≡ 4 }
 {
-    let columns = Repetition {
-        n: 3,
-        symbols: PhantomData,
-    };
-    let rows = Sum {
-        n: 4,
-        symbols: PhantomData,
-    };
-    Product::new(columns, rows)
+    Product::new(repetition_code(3), sum_code(4))
 }
 
 pub(crate) fn shift_code() -> Product<
@@ -58,17 +66,8 @@ pub(crate) fn shift_code() -> Product<
     ensures second { result.columns.rows.n ≡ 3 }
     ensures third { result.rows.n ≡ 2 }
 {
-    let first = Repetition {
-        n: 2,
-        symbols: PhantomData,
-    };
-    let second = Sum {
-        n: 3,
-        symbols: PhantomData,
-    };
-    let third = Repetition {
-        n: 2,
-        symbols: PhantomData,
-    };
-    Product::new(Product::new(first, second), third)
+    Product::new(
+        Product::new(repetition_code(2), sum_code(3)),
+        repetition_code(2),
+    )
 }

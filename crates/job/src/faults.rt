@@ -5,7 +5,7 @@ ghost use Rattle.job.specs.Answers.{layer, refused};
 
 use code::Refusal;
 
-#[derive(Clone, Copy)]
+#[derive(Clone, Copy, PartialEq, Eq, Debug)]
 pub enum Fault {
     // the line cannot be read
     Text(Refusal),

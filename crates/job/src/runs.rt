@@ -15,6 +15,5 @@ const MAX_LINES: usize = 60_000;
 fn take_message<C: Code>(code: &C, word: &[u16], message: &mut [u16]) -> Result<(), sheet::Fault>
     ensures { (res : Refused) × (result ≡ lifted res) × TakesOut (C.Code.codebook code.now) (C.Code.layout code.now) word.now message.old message.new res }
 {
-    code.take_out(word, message)?;
-    Ok(())
+    Ok(code.take_out(word, message)?)
 }
