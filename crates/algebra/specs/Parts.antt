@@ -2,7 +2,7 @@
 use Rattle.std.specs.Prelude.{◌≡◌, ℕ, ◌+◌, ◌*◌, ◌<◌, ◌≤◌, max, Bool, true, false, T, ◌≢◌, List, length, slice_index}
 use Rattle.code.specs.Cells.{good, blank, cost}
 use Rattle.code.specs.declared.cells.Content.TheVariants.{Received}
-use Rattle.code.specs.Codes.{Codebook}
+use Rattle.code.specs.Codes.{Codebook, Layout, Carries}
 use Rattle.algebra.specs.Grids.{row}
 use Rattle.algebra.specs.Weights.{cut, heft}
 
@@ -81,3 +81,7 @@ pub record Cut (a b : Codebook) (received grid weights line word rest : ℕ) : T
   pub room1 : a.working ≤ rest
   pub room2 : b.working ≤ rest
   pub roomy : rest ≤ 16384
+
+-- w is the word that carries m
+abbrev pub Printed : Codebook → Layout → (m w : List ℕ) → Type 0
+Printed b l m w = b.Word w × Carries l m w
