@@ -1,7 +1,9 @@
 -- What the parts of a product's read need and leave. Assumes nothing.
-use Rattle.std.specs.Prelude.{◌≡◌, ℕ, ◌+◌, ◌*◌, ◌<◌, ◌≤◌, max, Bool, true, false, T, ◌≢◌, List, length, slice_index}
+use Rattle.std.specs.Prelude.{◌≡◌, ℕ, ◌+◌, ◌*◌, ◌<◌, ◌≤◌, max, Bool, true, false, T, ◌≢◌, List, length, slice_index, Option, Some, None}
 use Rattle.code.specs.Cells.{good, blank, cost}
 use Rattle.code.specs.declared.cells.Content.TheVariants.{Received}
+use Rattle.code.specs.declared.cells.Counts.{Counts}
+use Rattle.code.specs.Calls.{Within, Beyond}
 use Rattle.code.specs.Codes.{Codebook}
 use Rattle.algebra.specs.Grids.{row}
 use Rattle.algebra.specs.Weights.{cut, heft}
@@ -81,3 +83,8 @@ pub record Cut (a b : Codebook) (received grid weights line word rest : ℕ) : T
   pub room1 : a.working ≤ rest
   pub room2 : b.working ≤ rest
   pub roomy : rest ≤ 16384
+
+-- what the read of the line r gives, with y left: the one word within reach, or that there is none
+abbrev pub Reached : Codebook → (r y : List ℕ) → Option Counts → Type 0
+Reached s r y (Some c) = Within s r y c
+Reached s r y None = Beyond s r

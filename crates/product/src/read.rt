@@ -6,7 +6,7 @@ ghost use Rattle.algebra.specs.Grids.{row, column, grids};
 ghost use Rattle.code.specs.Calls.{found, reads};
 ghost use Rattle.code.specs.Refusals.{clean};
 ghost use Rattle.algebra.specs.Weights.{cut, heavy, heft, Found};
-ghost use Rattle.algebra.specs.Parts.{Ready, Taken, Symbols, Weighed, Fresh, Tried, Renewed, Decoded, RowsDecoded, Says, Cut};
+ghost use Rattle.algebra.specs.Parts.{Ready, Taken, Symbols, Weighed, Fresh, Tried, Renewed, Decoded, RowsDecoded, Says, Cut, Reached};
 
 use alphabet::Alphabet;
 use code::{BLANK, Code, Content, Counts, Reason, Refusal, check_cells, count};
@@ -34,8 +34,8 @@ pub(crate) fn take_column(grid: &[u16], n2: usize, j: usize, line: &mut [u16])
     requires within { j < n2 }
     ensures { line.new ≡ column (length line.old) n2 grid.now j }
 {
-    for i in 0..line.len() {
-        line[i] = grid[i * n2 + j];
+    for (i, cell) in line.iter_mut().enumerate() {
+        *cell = grid[i * n2 + j];
     }
 }
 
@@ -47,9 +47,19 @@ pub(crate) fn put_column(word: &[u16], n2: usize, j: usize, grid: &mut [u16])
     ensures here { column (length word.now) n2 grid.new j ≡ word.now }
     ensures others { (k : ℕ) → k < n2 → k ≢ j → column (length word.now) n2 grid.new k ≡ column (length word.now) n2 grid.old k }
 {
-    for i in 0..word.len() {
-        grid[i * n2 + j] = word[i];
+    for (i, symbol) in word.iter().enumerate() {
+        grid[i * n2 + j] = *symbol;
     }
+}
+
+// Reads a line by the code: the one word within reach, with its counts, or none.
+fn read_line<C: Code>(code: &C, line: &[u16], word: &mut [u16], rest: &mut [u16]) -> Option<Counts>
+    requires ready { Ready (C.Code.codebook code.now) (length line.now) (length rest.old) }
+    requires tray { length word.old ≡ length line.now }
+    requires taken { Taken (C.Code.codebook code.now).q line.now }
+    ensures { Reached (C.Code.codebook code.now) line.now word.new result }
+{
+    code.read(line, word, rest).ok()
 }
 
 // Reads column j by the code, and puts the word into the grid; the weight of the column.
@@ -73,12 +83,12 @@ fn correct_column<C: Code>(
     ensures others { (k : ℕ) → k < n2 → k ≢ j → column (length line.old) n2 grid.new k ≡ column (length line.old) n2 grid.old k }
 {
     take_column(received, n2, j, line);
-    match code.read(line, word, rest) {
-        Ok(found) => {
+    match read_line(code, line, word, rest) {
+        Some(found) => {
             put_column(word, n2, j, grid);
             2 * found.wrong + found.blank
         }
-        Err(_) => code.distance(),
+        None => distance_of(code),
     }
 }
 
@@ -100,8 +110,8 @@ fn correct_columns<C: Code>(
     requires taken { Taken (C.Code.codebook code.now).q received.now }
     ensures { (j : ℕ) → j < n2 → Found (C.Code.codebook code.now) (column n1 n2 received.now j) (column n1 n2 grid.new j) (slice_index weights.new j) }
 {
-    for j in 0..n2 {
-        let weight = correct_column(
+    for (j, weight) in weights.iter_mut().enumerate() {
+        let found = correct_column(
             code,
             received,
             n2,
@@ -111,14 +121,18 @@ fn correct_columns<C: Code>(
             &mut word[0..n1],
             rest,
         );
-        weights[j] = weight as u16;
+        *weight = found as u16;
     }
 }
 
 fn cut_cell(cell: u16, weight: u16, t: usize) -> u16
     ensures { result ≡ (if nat_le t weight then blank else cell) }
 {
-    if t <= weight as usize { BLANK } else { cell }
+    if t <= usize::from(weight) {
+        BLANK
+    } else {
+        cell
+    }
 }
 
 // The row with blanks where the weight is at least t.
@@ -126,8 +140,8 @@ fn cut_row(cells: &[u16], weights: &[u16], t: usize, line: &mut [u16])
     requires { (length line.old ≡ length cells.now) × (length weights.now ≡ length cells.now) }
     ensures { line.new ≡ cut (length line.old) (λ j. slice_index weights.now j) cells.now t }
 {
-    for j in 0..line.len() {
-        line[j] = cut_cell(cells[j], weights[j], t);
+    for (j, cell) in line.iter_mut().enumerate() {
+        *cell = cut_cell(cells[j], weights[j], t);
     }
 }
 
@@ -136,10 +150,11 @@ fn heavy_cell(d1: usize, weight: u16, cell: u16, symbol: u16) -> usize
     ensures is { result ≡ heavy d1 weight cell symbol }
     ensures low { result ≤ 8192 }
 {
+    let weight = usize::from(weight);
     if cell == symbol {
-        weight as usize
+        weight
     } else {
-        2 * d1 - weight as usize
+        2 * d1 - weight
     }
 }
 
@@ -149,9 +164,9 @@ fn row_weight(cells: &[u16], word: &[u16], weights: &[u16], d1: usize) -> usize
     requires low { (k : ℕ) → k < length cells.now → slice_index weights.now k ≤ d1 }
     ensures { result ≡ heft (length cells.now) d1 (λ j. slice_index weights.now j) cells.now word.now }
 {
-    let mut total: usize = 0;
-    for j in 0..cells.len() {
-        total += heavy_cell(d1, weights[j], cells[j], word[j]);
+    let mut total = 0;
+    for ((cell, symbol), weight) in cells.iter().zip(word).zip(weights) {
+        total += heavy_cell(d1, *weight, *cell, *symbol);
     }
     total
 }
@@ -174,25 +189,15 @@ fn try_row<C: Code>(
     ensures { Tried (C.Code.codebook code.now) d1 weights.now cells.now t word.new result }
 {
     cut_row(cells, weights, t, line);
-    match code.read(line, word, rest) {
-        Ok(_) => row_weight(cells, word, weights, d1) < d1 * code.distance(),
-        Err(_) => false,
-    }
+    read_line(code, line, word, rest).is_some()
+        && row_weight(cells, word, weights, d1) < d1 * distance_of(code)
 }
 
 // Whether the cut at t + 1 blanks other cells than the cut at t.
 fn is_fresh(weights: &[u16], t: usize) -> bool
     ensures { Fresh weights.now t result }
 {
-    if t == 0 {
-        return true;
-    }
-    for weight in weights {
-        if *weight as usize == t {
-            return true;
-        }
-    }
-    false
+    t == 0 || weights.iter().any(|weight| usize::from(*weight) == t)
 }
 
 // One try at a row, unless the same was tried before.
@@ -293,10 +298,7 @@ fn column_lawful<C: Code>(
     ensures { Says result ((C.Code.codebook code.now).Word (column (length line.old) n2 grid.now j)) }
 {
     take_column(grid, n2, j, line);
-    match code.lawful(line, rest) {
-        Ok(verdict) => verdict,
-        Err(_) => false,
-    }
+    code.lawful(line, rest).unwrap_or(false)
 }
 
 // Whether each column of the grid is a word.
