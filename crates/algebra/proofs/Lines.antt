@@ -20,7 +20,7 @@ use Rattle.code.proofs.Rows.{equal_or_not}
 use Rattle.algebra.specs.Weights.{cut, heft, Found}
 use Rattle.algebra.proofs.Averages.{some_cut}
 use Rattle.algebra.proofs.Grids.{column_at, row_at}
-use Rattle.algebra.specs.Parts.{Ready, Taken, Symbols, Weighed, Light, Heavy, HeavyAt, Tried, Renewed, Says, Reached}
+use Rattle.algebra.specs.Parts.{Ready, Taken, Symbols, Weighed, Light, Heavy, HeavyAt, Tried, Renewed, Says, Reached, Roomy}
 use Rattle.algebra.proofs.Places.{at}
 use Rattle.algebra.proofs.Sizes.{gauge}
 
@@ -220,3 +220,7 @@ pub tried_unread : (s : Codebook) (d n t : ℕ) (ws x line word : List ℕ) (o :
     → Reached s line word o → is_some o ≡ false → Tried s d ws x t word false
 tried_unread s d n t ws x line word (Some c) z f w i = absurd (false≢true (sym i))
 tried_unread s d n t ws x line word None z f w i = tried_none s d n t ws x line z f w
+
+-- the working cells that are left of what is lent
+pub ready_of : (s : Codebook) (m k l : ℕ) → m ≡ s.n → l ≡ k + (s.n + s.n) → Roomy s l → Ready s m k
+ready_of s m k l e f h = record { long = sym e; short = omega (arith, e, h.short); room = omega (arith, f, h.room); roomy = h.roomy; symbols = h.symbols }

@@ -8,14 +8,13 @@ ghost use Rattle.std.proofs.Common.{rules};
 use crate::judge::judge;
 use crate::pick::{combine_places, take, take_sizes};
 use crate::print::{encode_sizes, print};
-use crate::read::attempt;
 use code::{Code, Counts, MAX_LENGTH, MAX_WORKING, Refusal, check_lawful, check_read, zero_front};
 
 // Columns are words of the first code and rows words of the second.
 #[derive(Drop)]
 pub struct Product<A, B> {
-    columns: A,
-    rows: B,
+    pub(crate) columns: A,
+    pub(crate) rows: B,
 }
 
 impl<A: Code, B: Code<Symbols = A::Symbols>> Product<A, B> {
@@ -89,13 +88,7 @@ impl<A: Code, B: Code<Symbols = A::Symbols>> Code for Product<A, B> {
         let n = self.length();
         let working = self.working_cells();
         check_read(n, working, received, answer, work)?;
-        let verdict = attempt(
-            &self.columns,
-            &self.rows,
-            received,
-            answer,
-            &mut work[0..working],
-        );
+        let verdict = self.attempt(received, answer, &mut work[0..working]);
         zero_front(work, working);
         verdict
     }

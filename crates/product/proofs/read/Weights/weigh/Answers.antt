@@ -6,7 +6,7 @@ use Rattle.std.proofs.lemmas.Iterator.{YieldsList-from_slice, YieldsList-from_zi
 use Rattle.std.proofs.lemmas.Iterator.Consumers.{YieldsList-turn}
 use Rattle.alphabet.proofs.Sums.{sum_more}
 use Rattle.algebra.specs.Weights.{heavy}
-use Rattle.product.proofs.read.row_weight.Goals as goal
+use Rattle.product.proofs.read.Weights.weigh.Goals as goal
 
 -- the turn's cell, symbol and weight stand at its index
 read : (xs ys ws : List ℕ) (i x y w : ℕ) → (i < length (zip (zip xs ys) ws)) × (((x, y), w) ≡ get_or (zip (zip xs ys) ws) i ((x, y), w))
@@ -29,12 +29,12 @@ pub loop-cell-preserved : goal.loop-cell-preserved
 loop-cell-preserved c =
     let cells : List ℕ = c.args.cells.now in
     let word : List ℕ = c.args.word.now in
-    let ws : List ℕ = c.args.weights.now in
+    let ws : List ℕ = c.args.self.now.each.now in
     let i : ℕ = length c.loop-cell.yielded in
     let turn = YieldsList-turn (YieldsList-from_zip (YieldsList-from_zip (YieldsList-from_slice cells cc) (YieldsList-from_slice word cc)) (YieldsList-from_slice ws cc))
     c.loop-cell.yielded c.loop-cell.cell-iterator c.loop-cell.yielded_by _ c.next.new.self ((c.in-Some.cell, c.in-Some.symbol), c.in-Some.weight) c.in-Some.is c.next.ensures.steps in
     let is = read cells word ws i c.in-Some.cell.now c.in-Some.symbol.now c.in-Some.weight.now turn in
-    let more = sum_more i (λ k. heavy c.args.d1 (get_or ws k 0) (get_or cells k 0) (get_or word k 0)) in
+    let more = sum_more i (λ k. heavy c.args.self.now.most (get_or ws k 0) (get_or cells k 0) (get_or word k 0)) in
     let long = length_push c.loop-cell.yielded ((c.in-Some.cell, c.in-Some.symbol), c.in-Some.weight) in
-    let same : heavy c.args.d1 c.in-Some.weight.now c.in-Some.cell.now c.in-Some.symbol.now ≡ heavy c.args.d1 (get_or ws i 0) (get_or cells i 0) (get_or word i 0) = rw (is.0, is.1, is.2) in
+    let same : heavy c.args.self.now.most c.in-Some.weight.now c.in-Some.cell.now c.in-Some.symbol.now ≡ heavy c.args.self.now.most (get_or ws i 0) (get_or cells i 0) (get_or word i 0) = rw (is.0, is.1, is.2) in
     rw long (omega (arith, more, same, c.loop-cell.invariant.0, c.heavy_cell-total.ensures.is), omega (arith, c.loop-cell.invariant.1, c.heavy_cell-total.ensures.low))
