@@ -1,8 +1,7 @@
 -- What reading or judging one line tells, where the code is ready for it. Assumes nothing.
-use Rattle.std.proofs.Common.{◌≡◌, ℕ, suc, ◌+◌, ◌-◌, ◌*◌, ◌<◌, ◌≤◌, Bool, true, false, cond, eqb, ltb, leb, ◌≢◌, List, [], ◌∷◌, length, get_or, Option, Some, None, Ok, Err, Result, sym, refl, ap, ◌∙◌, subst, inl, inr, arith}
+use Rattle.std.proofs.Common.{◌≡◌, ℕ, suc, ◌+◌, ◌-◌, ◌*◌, ◌<◌, ◌≤◌, Bool, true, false, cond, eqb, ltb, leb, ◌≢◌, List, [], ◌∷◌, length, get_or, Ok, Err, Result, sym, refl, ap, ◌∙◌, subst, inl, inr, arith}
 use Rattle.std.specs.List.{prefix_len}
-use Rattle.std.specs.Option.{is_some}
-use Rattle.std.specs.Result.{result_unwrap_or, result_ok}
+use Rattle.std.specs.Result.{result_unwrap_or}
 use Rattle.std.proofs.lemmas.Bool.{cases_lt, cond_above, cond_both, le-ltb, lt-ltb, eq-eqb, leb-false, ltb-true, ltb-false, or_left, or_right, false≢true}
 use Rattle.std.proofs.lemmas.Bool.Decides.{nat_tests}
 use Rattle.code.specs.declared.cells.Content.{Content}
@@ -20,7 +19,7 @@ use Rattle.code.proofs.Rows.{equal_or_not}
 use Rattle.algebra.specs.Weights.{cut, heft, Found}
 use Rattle.algebra.proofs.Averages.{some_cut}
 use Rattle.algebra.proofs.Grids.{column_at, row_at}
-use Rattle.algebra.specs.Parts.{Ready, Taken, Symbols, Weighed, Light, Heavy, HeavyAt, Tried, Renewed, Says, Reached, Roomy}
+use Rattle.algebra.specs.Parts.{Ready, Taken, Symbols, Weighed, Light, Heavy, HeavyAt, Tried, Renewed, Says}
 use Rattle.algebra.proofs.Places.{at}
 use Rattle.algebra.proofs.Sizes.{gauge}
 
@@ -199,28 +198,3 @@ or_no s r (Err x) b h e = absurd h
 pub judge_says : {s : Codebook} {r k k' : List ℕ} {res : Result Bool Refusal} {b : Bool} → Ready s (length r) (length k) → Symbols s.q r
     → Judges s r k k' res → b ≡ result_unwrap_or res false → Says b (s.Word r)
 judge_says {s} {r} {k} {k'} {res} {b} ready low h e = or_no s r res b (judge_passes s r k k' res ready low h) e
-
--- ---- a read, and none where there is none
-none_else : (s : Codebook) (r a y : List ℕ) (res : Result Counts Refusal) (o : Option Counts) → found s r a y res → o ≡ result_ok res → Reached s r y o
-none_else s r a y (Ok c) o h e = subst (λ (x : Option Counts). Reached s r y x) (sym e) h
-none_else s r a y (Err x) o h e = subst (λ (x : Option Counts). Reached s r y x) (sym e) h.1
-
-pub read_reaches : {s : Codebook} {r a a' k k' : List ℕ} {res : Result Counts Refusal} {o : Option Counts} → Ready s (length r) (length k) → length a ≡ length r → Taken s.q r
-    → Reads s r a a' k k' res → o ≡ result_ok res → Reached s r a' o
-read_reaches {s} {r} {a} {a'} {k} {k'} {res} {o} ready e taken h f = none_else s r a a' res o (read_passes s r a a' k k' res ready e taken h) f
-
--- a try of the row x at t: its line was read, and the word weighs h
-pub tried_read : (s : Codebook) (d n t : ℕ) (ws x line word : List ℕ) (o : Option Counts) (h m : ℕ) → s.n ≡ n → line ≡ cut n (λ j. get_or ws j 0) x t
-    → h ≡ heft n d (λ j. get_or ws j 0) x word → m ≡ s.d → Reached s line word o → is_some o ≡ true → Tried s d ws x t word (ltb h (d * m))
-tried_read s d n t ws x line word (Some c) h m z f e k w i = tried s d n t ws x line word c h m z f e k w
-tried_read s d n t ws x line word None h m z f e k w i = absurd (false≢true i)
-
--- or there was no word to read
-pub tried_unread : (s : Codebook) (d n t : ℕ) (ws x line word : List ℕ) (o : Option Counts) → s.n ≡ n → line ≡ cut n (λ j. get_or ws j 0) x t
-    → Reached s line word o → is_some o ≡ false → Tried s d ws x t word false
-tried_unread s d n t ws x line word (Some c) z f w i = absurd (false≢true (sym i))
-tried_unread s d n t ws x line word None z f w i = tried_none s d n t ws x line z f w
-
--- the working cells that are left of what is lent
-pub ready_of : (s : Codebook) (m k l : ℕ) → m ≡ s.n → l ≡ k + (s.n + s.n) → Roomy s l → Ready s m k
-ready_of s m k l e f h = record { long = sym e; short = omega (arith, e, h.short); room = omega (arith, f, h.room); roomy = h.roomy; symbols = h.symbols }

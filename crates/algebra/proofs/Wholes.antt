@@ -8,12 +8,12 @@ use Rattle.algebra.specs.Grids.{row, column, Grid, grids}
 use Rattle.code.specs.Calls.{Within, Beyond}
 use Rattle.code.proofs.Costs.{within}
 use Rattle.code.proofs.Rows.{equal_or_not}
-use Rattle.algebra.specs.Weights.{heft, Found}
+use Rattle.algebra.specs.Weights.{heft}
 use Rattle.algebra.proofs.Averages.{one_passes}
 use Rattle.algebra.proofs.Grids.{place, row_at, column_at}
-use Rattle.algebra.proofs.Products.{product_apart}
 use Rattle.algebra.proofs.Reach.{row_weighs}
-use Rattle.algebra.specs.Parts.{Symbols, Weighed, RowsDecoded, ColumnsFound, Says, Candidate}
+use Rattle.algebra.specs.Parts.{Symbols, Weighed, RowsDecoded, Says}
+use Rattle.algebra.specs.Readings.{ColumnsFound, Candidate}
 use Rattle.algebra.proofs.Places.{same_rows}
 
 -- numbers as the code has them

@@ -1,12 +1,10 @@
 -- What the parts of a product's read need and leave. Assumes nothing.
-use Rattle.std.specs.Prelude.{◌≡◌, ℕ, ◌+◌, ◌*◌, ◌<◌, ◌≤◌, Bool, true, false, T, ◌≢◌, List, length, slice_index, Option, Some, None}
+use Rattle.std.specs.Prelude.{◌≡◌, ℕ, ◌+◌, ◌*◌, ◌<◌, ◌≤◌, Bool, true, false, T, ◌≢◌, List, length, slice_index}
 use Rattle.code.specs.Cells.{good, blank, cost}
 use Rattle.code.specs.declared.cells.Content.TheVariants.{Received}
-use Rattle.code.specs.declared.cells.Counts.{Counts}
-use Rattle.code.specs.Calls.{Within, Beyond}
 use Rattle.code.specs.Codes.{Codebook}
-use Rattle.algebra.specs.Grids.{row, column}
-use Rattle.algebra.specs.Weights.{cut, heft, Found}
+use Rattle.algebra.specs.Grids.{row}
+use Rattle.algebra.specs.Weights.{cut, heft}
 
 -- a code of n cells, small enough to be read, and with its working cells lent
 pub record Ready (s : Codebook) (n lent : ℕ) : Type 0 where
@@ -69,24 +67,3 @@ RowsDecoded s d ws n1 n2 x y false = (i : ℕ) × (i < n1) × Heavy s d ws (row 
 -- b says whether P
 abbrev pub Says : Bool → Type 0 → Type 0
 Says b P = (T b → P) × (P → T b)
-
--- what the read of the line r gives, with y left: the one word within reach, or that there is none
-abbrev pub Reached : Codebook → (r y : List ℕ) → Option Counts → Type 0
-Reached s r y (Some c) = Within s r y c
-Reached s r y None = Beyond s r
-
--- a code that is small enough to be read, and cells lent for a line, its word and the working cells
-pub record Roomy (s : Codebook) (lent : ℕ) : Type 0 where
-  pub short : s.n ≤ 4096
-  pub room : 2 * s.n + s.working ≤ lent
-  pub roomy : s.working ≤ 16384
-  pub symbols : s.q ≤ blank
-
--- what was made of each of the n columns of r: x, at the weights ws
-abbrev pub ColumnsFound : Codebook → ℕ → (r x ws : List ℕ) → Type 0
-ColumnsFound s n r x ws = (j : ℕ) → j < n → Found s (column s.n n r j) (column s.n n x j) (slice_index ws j)
-
--- y is a word, and no other can be within reach of r; or none is
-abbrev pub Candidate : Codebook → (r y : List ℕ) → Bool → Type 0
-Candidate s r y true = s.Word y × ((v : List ℕ) → s.Word v → cost r v < s.d → v ≡ y)
-Candidate s r y false = Beyond s r

@@ -6,7 +6,8 @@ ghost use Rattle.algebra.specs.Grids.{row, column, grids};
 ghost use Rattle.code.specs.Calls.{found, reads};
 ghost use Rattle.code.specs.Refusals.{clean};
 ghost use Rattle.algebra.specs.Weights.{cut, heavy, heft, Found};
-ghost use Rattle.algebra.specs.Parts.{Ready, Taken, Symbols, Weighed, Fresh, Tried, Renewed, Decoded, RowsDecoded, Says, Reached, Roomy, ColumnsFound, Candidate};
+ghost use Rattle.algebra.specs.Parts.{Ready, Taken, Symbols, Weighed, Fresh, Tried, Renewed, Decoded, RowsDecoded, Says};
+ghost use Rattle.algebra.specs.Readings.{Reached, Roomy, ColumnsFound, Candidate};
 
 use crate::whole::Product;
 use alphabet::Alphabet;

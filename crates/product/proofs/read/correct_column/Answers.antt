@@ -1,4 +1,4 @@
-use Rattle.std.proofs.Common.{◌≡◌, ℕ, ◌≤◌, List, length, sym, refl, ◌∙◌, arith}
+use Rattle.std.proofs.Common.{◌≡◌, ℕ, List, length, sym, refl, ◌∙◌, arith}
 use Rattle.algebra.specs.Grids.{column}
 use Rattle.algebra.proofs.Lines.{column-taken, column-found, found_word, found_none}
 use Rattle.product.proofs.read.correct_column.Goals as goal

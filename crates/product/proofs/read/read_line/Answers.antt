@@ -1,4 +1,4 @@
-use Rattle.algebra.proofs.Lines.{read_reaches}
+use Rattle.algebra.proofs.Tries.{read_reaches}
 use Rattle.product.proofs.read.read_line.Goals as goal
 
 pub returns : goal.returns

@@ -1,9 +1,10 @@
-use Rattle.std.proofs.Common.{◌≡◌, ℕ, ◌+◌, ◌-◌, ◌*◌, true, false, List, length, get_or, take, drop, sym, ap, ◌∙◌, subst, arith}
+use Rattle.std.proofs.Common.{◌≡◌, ℕ, ◌+◌, ◌-◌, ◌*◌, true, List, length, get_or, take, drop, sym, ap, ◌∙◌, subst, arith}
 use Rattle.algebra.specs.Grids.{row}
 use Rattle.code.proofs.Rows.{length-listed}
 use Rattle.algebra.specs.Parts.{Weighed, Light, Heavy, RowsDecoded}
-use Rattle.algebra.proofs.Places.{row_end, row_lent, rows_more, rows_after}
-use Rattle.algebra.proofs.Lines.{ready_of}
+use Rattle.algebra.proofs.Places.{row_end}
+use Rattle.algebra.proofs.Written.{row_lent, rows_written, rows_unwritten}
+use Rattle.algebra.proofs.Tries.{ready_of}
 use Rattle.product.proofs.read.RowDecoder.decode_rows.Goals as goal
 
 -- the length of a grid that is counted by the code's length
@@ -66,9 +67,9 @@ loop-i-preserved g c =
     let same : take m (drop (i * n) x) ≡ row n x0 i = row_lent n i c.args.n1 x size c.loop-i-test.true ∙ c.loop-i.invariant.1 i (omega arith) c.loop-i-test.true in
     let long : length (take m (drop (i * n) x)) ≡ n = ap length same ∙ length-listed n (λ j. get_or x0 (i * n + j) 0) in
     let ly : length y ≡ m = omega (arith, c.decode_row.auto.cells, long) in (
-      rows_more (λ k w. Light s d ws (row n x0 k) w) n i c.args.n1 m x y size c.loop-i-test.true z ly c.loop-i.invariant.0
+      rows_written (λ k w. Light s d ws (row n x0 k) w) n i c.args.n1 m x y size c.loop-i-test.true z ly c.loop-i.invariant.0
           (subst (λ (w : List ℕ). Light s d ws w y) same c.if-not-decode_row.ensures),
-      rows_after n i c.args.n1 m x x0 y size z ly c.loop-i.invariant.1,
+      rows_unwritten n i c.args.n1 m x x0 y size z ly c.loop-i.invariant.1,
     )
 
 pub returns : goal.returns

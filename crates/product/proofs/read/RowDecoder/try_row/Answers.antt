@@ -1,6 +1,7 @@
 use Rattle.std.proofs.Common.{◌≡◌, ℕ, List, length, get_or, sym, refl, ap, ◌∙◌}
 use Rattle.algebra.specs.Weights.{cut}
-use Rattle.algebra.proofs.Lines.{ready_at, cut-taken, tried_read, tried_unread}
+use Rattle.algebra.proofs.Lines.{ready_at, cut-taken}
+use Rattle.algebra.proofs.Tries.{tried_read, tried_unread}
 use Rattle.product.proofs.read.RowDecoder.try_row.Goals as goal
 
 pub read_line-requires : goal.read_line-requires

@@ -1,4 +1,4 @@
-use Rattle.std.proofs.Common.{◌≡◌, ◌*◌, length, ◌∙◌}
+use Rattle.std.proofs.Common.{◌∙◌}
 use Rattle.algebra.proofs.Wholes.{weighed, row_lost, symbols, candidate}
 use Rattle.product.proofs.whole.Product.decode.Goals as goal
 
