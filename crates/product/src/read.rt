@@ -1,5 +1,5 @@
 // Reading a grid: its columns by one code, then its rows by the other, each cut at every weight.
-ghost use Rattle.std.specs.Prelude.{◌≡◌, ℕ, ◌+◌, ◌*◌, ◌<◌, ◌≤◌, max, ◌≢◌, length, if◌then◌else◌, nat_le, slice_index};
+ghost use Rattle.std.specs.Prelude.{◌≡◌, ℕ, ◌+◌, ◌*◌, ◌<◌, ◌≤◌, ◌≢◌, length, if◌then◌else◌, nat_le, slice_index};
 ghost use Rattle.code.specs.Cells.{good, blank};
 ghost use Rattle.code.specs.declared.cells.Content.TheVariants.{Received};
 ghost use Rattle.algebra.specs.Grids.{row, column, grids};
