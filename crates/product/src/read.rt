@@ -7,7 +7,7 @@ ghost use Rattle.code.specs.Calls.{found, reads};
 ghost use Rattle.code.specs.Refusals.{clean};
 ghost use Rattle.algebra.specs.Weights.{cut, heavy, heft, Found};
 ghost use Rattle.algebra.specs.Parts.{Ready, Taken, Symbols, Weighed, Fresh, Tried, Renewed, Decoded, RowsDecoded, Says};
-ghost use Rattle.algebra.specs.Readings.{Reached, Roomy, ColumnsFound, Candidate};
+ghost use Rattle.algebra.specs.Readings.{Reached, RowReady, Roomy, ColumnsFound, Candidate};
 
 use crate::whole::Product;
 use alphabet::Alphabet;
@@ -197,9 +197,7 @@ impl<C: Code> RowDecoder<'_, '_, C> {
         word: &mut [u16],
         rest: &mut [u16],
     ) -> bool
-        requires ready { Ready (C.Code.codebook self.now.code.now) (length cells.now) (length rest.old) }
-        requires lines { (length line.old ≡ length cells.now) × (length word.old ≡ length cells.now) × (length self.now.weights.each.now ≡ length cells.now) }
-        requires weighed { Weighed (C.Code.codebook self.now.code.now) self.now.weights.most self.now.weights.each.now cells.now }
+        requires row { RowReady (C.Code.codebook self.now.code.now) self.now.weights.most self.now.weights.each.now cells.now (length line.old) (length word.old) (length rest.old) }
         requires inside { t ≤ self.now.weights.most }
         ensures { Tried (C.Code.codebook self.now.code.now) self.now.weights.most self.now.weights.each.now cells.now t word.new result }
     {
@@ -217,9 +215,7 @@ impl<C: Code> RowDecoder<'_, '_, C> {
         word: &mut [u16],
         rest: &mut [u16],
     ) -> bool
-        requires ready { Ready (C.Code.codebook self.now.code.now) (length cells.now) (length rest.old) }
-        requires lines { (length line.old ≡ length cells.now) × (length word.old ≡ length cells.now) × (length self.now.weights.each.now ≡ length cells.now) }
-        requires weighed { Weighed (C.Code.codebook self.now.code.now) self.now.weights.most self.now.weights.each.now cells.now }
+        requires row { RowReady (C.Code.codebook self.now.code.now) self.now.weights.most self.now.weights.each.now cells.now (length line.old) (length word.old) (length rest.old) }
         requires inside { t < self.now.weights.most }
         ensures { Renewed (C.Code.codebook self.now.code.now) self.now.weights.most self.now.weights.each.now cells.now t word.new result }
     {
@@ -234,9 +230,7 @@ impl<C: Code> RowDecoder<'_, '_, C> {
         word: &mut [u16],
         rest: &mut [u16],
     ) -> bool
-        requires ready { Ready (C.Code.codebook self.now.code.now) (length cells.old) (length rest.old) }
-        requires lines { (length line.old ≡ length cells.old) × (length word.old ≡ length cells.old) × (length self.now.weights.each.now ≡ length cells.old) }
-        requires weighed { Weighed (C.Code.codebook self.now.code.now) self.now.weights.most self.now.weights.each.now cells.old }
+        requires row { RowReady (C.Code.codebook self.now.code.now) self.now.weights.most self.now.weights.each.now cells.old (length line.old) (length word.old) (length rest.old) }
         ensures { Decoded (C.Code.codebook self.now.code.now) self.now.weights.most self.now.weights.each.now cells.old cells.new result }
     {
         for t in 0..self.weights.most {
@@ -343,37 +337,7 @@ impl<A: Code, B: Code<Symbols = A::Symbols>> Product<A, B> {
         columns_lawful(&self.columns, grid, n1, n2, line, rest)
     }
 
-    // The whole correction, on the parts of the working cells.
-    fn correct(
-        &self,
-        received: &[u16],
-        answer: &mut [u16],
-        grid: &mut [u16],
-        weights: &mut [u16],
-        lines: &mut [u16],
-    ) -> Result<Counts, Refusal>
-        requires columns_ready { Roomy (A.Code.codebook self.now.columns) (length lines.old) }
-        requires rows_ready { Roomy (B.Code.codebook self.now.rows) (length lines.old) }
-        requires fits { (length received.now ≡ (grids (A.Code.codebook self.now.columns) (B.Code.codebook self.now.rows)).n) × (length grid.old ≡ length received.now) × (length grid.old ≤ 4096) × (length weights.old ≡ (B.Code.codebook self.now.rows).n) }
-        requires tray { length answer.old ≡ length received.now }
-        requires same { (A.Code.codebook self.now.columns).q ≡ (B.Code.codebook self.now.rows).q }
-        requires taken { Taken (A.Code.codebook self.now.columns).q received.now }
-        ensures { found (grids (A.Code.codebook self.now.columns) (B.Code.codebook self.now.rows)) received.now answer.old answer.new result }
-    {
-        if !self.decode(received, grid, weights, lines) {
-            return Err(Reason::Lost.at(0));
-        }
-        let counts = count(received, grid)?;
-        let d1 = distance_of(&self.columns);
-        let d2 = distance_of(&self.rows);
-        if 2 * counts.wrong + counts.blank >= d1 * d2 {
-            return Err(Reason::Lost.at(0));
-        }
-        answer.copy_from_slice(grid);
-        Ok(counts)
-    }
-
-    // Cuts the working cells and corrects.
+    // Cuts the working cells, decodes, and takes the grid where it costs less than the distance.
     fn solve(
         &self,
         received: &[u16],
@@ -390,7 +354,17 @@ impl<A: Code, B: Code<Symbols = A::Symbols>> Product<A, B> {
     {
         let (grid, tail) = work.split_at_mut(received.len());
         let (weights, lines) = tail.split_at_mut(length_of(&self.rows));
-        self.correct(received, answer, grid, weights, lines)
+        if !self.decode(received, grid, weights, lines) {
+            return Err(Reason::Lost.at(0));
+        }
+        let counts = count(received, grid)?;
+        let d1 = distance_of(&self.columns);
+        let d2 = distance_of(&self.rows);
+        if 2 * counts.wrong + counts.blank >= d1 * d2 {
+            return Err(Reason::Lost.at(0));
+        }
+        answer.copy_from_slice(grid);
+        Ok(counts)
     }
 
     // Checks the cells, and corrects.

@@ -5,7 +5,7 @@ use Rattle.product.proofs.read.RowDecoder.decode_row.Goals as goal
 
 pub returns : goal.returns
 returns g c =
-    decoded_none (g.C.Code.codebook c.args.self.now.code.now) c.args.self.now.weights.most c.args.self.now.weights.each.now c.args.cells.now c.requires.ready.symbols c.requires.weighed
+    decoded_none (g.C.Code.codebook c.args.self.now.code.now) c.args.self.now.weights.most c.args.self.now.weights.each.now c.args.cells.now c.requires.row.ready.symbols c.requires.row.weighed
     (λ k l. c.loop-t.invariant.1 k (omega (arith, c.loop-t-test.false)))
 
 pub loop-t-preserved : goal.loop-t-preserved

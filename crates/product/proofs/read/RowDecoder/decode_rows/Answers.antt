@@ -33,9 +33,13 @@ decode_row-requires g c =
     let same : part ≡ row n c.args.grid.now i = row_lent n i c.args.n1 x size c.loop-i-test.true ∙ c.loop-i.invariant.1 i (omega arith) c.loop-i-test.true in
     let long : length part ≡ n = ap length same ∙ length-listed n (λ j. get_or c.args.grid.now (i * n + j) 0) in
     record {
-      ready = ready_of s (length part) (length c.loop-i.rest) (length c.args.lines.now) (long ∙ e) (omega arith) c.requires.ready;
-      lines = (omega (arith, long), omega (arith, long), omega (arith, long, e, c.requires.fits));
-      weighed = subst (λ (y : List ℕ). Weighed s c.args.self.now.weights.most c.args.self.now.weights.each.now y) (ap (λ (k : ℕ). row k c.args.grid.now i) (sym e) ∙ sym same) (c.requires.weighed i c.loop-i-test.true);
+      row = record {
+        ready = ready_of s (length part) (length c.loop-i.rest) (length c.args.lines.now) (long ∙ e) (omega arith) c.requires.ready;
+        weighed = subst (λ (y : List ℕ). Weighed s c.args.self.now.weights.most c.args.self.now.weights.each.now y) (ap (λ (k : ℕ). row k c.args.grid.now i) (sym e) ∙ sym same) (c.requires.weighed i c.loop-i-test.true);
+        weights_is = omega (arith, long, e, c.requires.fits);
+        line_is = omega (arith, long);
+        word_is = omega (arith, long);
+      };
     }
 
 pub returns-then-not-decode_row : goal.returns-then-not-decode_row

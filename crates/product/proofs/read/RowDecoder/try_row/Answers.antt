@@ -10,27 +10,27 @@ read_line-requires g c =
     let line : List ℕ = c.cut.new.line in
     let x : List ℕ = c.args.cells.now in
     let ws : List ℕ = c.args.self.now.weights.each.now in
-    let is : line ≡ cut (length x) (λ j. get_or ws j 0) x c.args.t = c.cut.ensures ∙ ap (λ (k : ℕ). cut k (λ j. get_or ws j 0) x c.args.t) c.requires.lines.0 in
-    let long : length line ≡ length x = c.cut.auto.line ∙ c.requires.lines.0 in
+    let is : line ≡ cut (length x) (λ j. get_or ws j 0) x c.args.t = c.cut.ensures ∙ ap (λ (k : ℕ). cut k (λ j. get_or ws j 0) x c.args.t) c.requires.row.line_is in
+    let long : length line ≡ length x = c.cut.auto.line ∙ c.requires.row.line_is in
     record {
-      ready = ready_at s (length x) (length line) _ _ long refl c.requires.ready;
-      tray = c.requires.lines.1 ∙ sym long;
-      taken = cut-taken s c.args.self.now.weights.most (length x) c.args.t ws x line c.requires.ready.long c.requires.inside c.requires.weighed is;
+      ready = ready_at s (length x) (length line) _ _ long refl c.requires.row.ready;
+      tray = c.requires.row.word_is ∙ sym long;
+      taken = cut-taken s c.args.self.now.weights.most (length x) c.args.t ws x line c.requires.row.ready.long c.requires.inside c.requires.row.weighed is;
     }
 
 pub returns-then-is_some : goal.returns-then-is_some
 returns-then-is_some g c =
     let x : List ℕ = c.args.cells.now in
     let ws : List ℕ = c.args.self.now.weights.each.now in
-    let is : c.cut.new.line ≡ cut (length x) (λ j. get_or ws j 0) x c.args.t = c.cut.ensures ∙ ap (λ (k : ℕ). cut k (λ j. get_or ws j 0) x c.args.t) c.requires.lines.0 in
+    let is : c.cut.new.line ≡ cut (length x) (λ j. get_or ws j 0) x c.args.t = c.cut.ensures ∙ ap (λ (k : ℕ). cut k (λ j. get_or ws j 0) x c.args.t) c.requires.row.line_is in
     tried_read (g.C.Code.codebook c.args.self.now.code.now) c.args.self.now.weights.most (length x) c.args.t ws x c.cut.new.line c.read_line.new.word c.read_line.result c.weigh.result c.distance_of.result
-    c.requires.ready.long is c.weigh.ensures c.distance_of.ensures.0 c.read_line.ensures (sym c.if-is_some.ensures)
+    c.requires.row.ready.long is c.weigh.ensures c.distance_of.ensures.0 c.read_line.ensures (sym c.if-is_some.ensures)
 
 pub returns-else-is_some : goal.returns-else-is_some
 returns-else-is_some g c =
     let x : List ℕ = c.args.cells.now in
     let ws : List ℕ = c.args.self.now.weights.each.now in
-    let is : c.cut.new.line ≡ cut (length x) (λ j. get_or ws j 0) x c.args.t = c.cut.ensures ∙ ap (λ (k : ℕ). cut k (λ j. get_or ws j 0) x c.args.t) c.requires.lines.0 in
+    let is : c.cut.new.line ≡ cut (length x) (λ j. get_or ws j 0) x c.args.t = c.cut.ensures ∙ ap (λ (k : ℕ). cut k (λ j. get_or ws j 0) x c.args.t) c.requires.row.line_is in
     rw c.if-is_some.false
     (tried_unread (g.C.Code.codebook c.args.self.now.code.now) c.args.self.now.weights.most (length x) c.args.t ws x c.cut.new.line c.read_line.new.word c.read_line.result
-    c.requires.ready.long is c.read_line.ensures (sym c.if-is_some.ensures))
+    c.requires.row.ready.long is c.read_line.ensures (sym c.if-is_some.ensures))
