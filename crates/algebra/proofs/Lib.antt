@@ -7,7 +7,9 @@ pub mod Messages
 pub mod Encoded
 pub mod Agreement
 pub mod Places
+pub mod Written
 pub mod Sizes
 pub mod Lines
+pub mod Tries
 pub mod Wholes
 pub mod Combining

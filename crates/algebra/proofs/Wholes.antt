@@ -1,5 +1,5 @@
 -- Of a grid whose columns were read and whose rows were decoded, only the decoded grid can be within reach. Assumes nothing.
-use Rattle.std.proofs.Common.{◌≡◌, ℕ, ◌+◌, ◌*◌, ◌<◌, ◌≤◌, true, false, List, length, get_or, sym, ap, subst, inl, inr, arith}
+use Rattle.std.proofs.Common.{◌≡◌, ℕ, ◌+◌, ◌*◌, ◌<◌, ◌≤◌, Bool, true, false, List, length, get_or, sym, refl, ap, subst, inl, inr, arith}
 use Rattle.std.proofs.lemmas.Bool.{cases_lt}
 use Rattle.code.specs.declared.cells.Counts.{Counts}
 use Rattle.code.specs.Cells.{blank, cost, wrongs, blanks}
@@ -8,12 +8,12 @@ use Rattle.algebra.specs.Grids.{row, column, Grid, grids}
 use Rattle.code.specs.Calls.{Within, Beyond}
 use Rattle.code.proofs.Costs.{within}
 use Rattle.code.proofs.Rows.{equal_or_not}
-use Rattle.algebra.specs.Weights.{heft, Found}
+use Rattle.algebra.specs.Weights.{heft}
 use Rattle.algebra.proofs.Averages.{one_passes}
 use Rattle.algebra.proofs.Grids.{place, row_at, column_at}
-use Rattle.algebra.proofs.Products.{product_apart}
 use Rattle.algebra.proofs.Reach.{row_weighs}
-use Rattle.algebra.specs.Parts.{Symbols, Weighed, RowsDecoded}
+use Rattle.algebra.specs.Parts.{Symbols, Weighed, RowsDecoded, Says}
+use Rattle.algebra.specs.Readings.{ColumnsFound, Candidate}
 use Rattle.algebra.proofs.Places.{same_rows}
 
 -- numbers as the code has them
@@ -21,11 +21,8 @@ pub moved : (P : ℕ → ℕ → ℕ → Type 0) {x y z u v w : ℕ} → x ≡ u
 moved P {x} {y} {z} {u} {v} {w} p q r h =
     subst (λ (k : ℕ). P u v k) r (subst (λ (k : ℕ). P u k z) q (subst (λ (k : ℕ). P k y z) p h))
 
-abbrev pub ColumnsFound : Codebook → (r x ws : List ℕ) → ℕ → ℕ → Type 0
-ColumnsFound a r x ws n1 n2 = (j : ℕ) → j < n2 → Found a (column n1 n2 r j) (column n1 n2 x j) (get_or ws j 0)
-
 module _ (a b : Codebook) (p : Apart a) (small : a.q ≤ blank) (r x ws : List ℕ) (e : length r ≡ a.n * b.n)
-    (found : ColumnsFound a r x ws a.n b.n) where
+    (found : ColumnsFound a b.n r x ws) where
   pub rows_weighed : a.q ≡ b.q → (i : ℕ) → i < a.n → Weighed b a.d ws (row b.n x i)
   rows_weighed same i l = record {
     low = λ j h. (found j h).low;
@@ -64,20 +61,52 @@ module _ (a b : Codebook) (p : Apart a) (small : a.q ≤ blank) (r x ws : List �
           | inr k ↦ k
         ]
 
-    pub beyond_cost : a.d * b.d ≤ cost r y → Beyond (grids a b) r
-    beyond_cost h v g =
-        elim (cases_lt (cost r v) (a.d * b.d)) [
-          | inl l ↦ absurd (omega (arith, h, l, ap (cost r) (only v g l)))
-          | inr k ↦ k
-        ]
-
     pub rows_symbols : a.q ≡ b.q → Symbols a.q y
     rows_symbols same k h =
         let at = place a.n b.n k (omega arith) in
         let here : get_or y (at.i * b.n + at.j) 0 < a.q = omega (arith, row_at b.n y at.i at.j at.column_in, q.symbols _ (rows at.i at.row_in).word at.j at.column_in, same) in
         rw at.is at here
 
-    pub whole : (c : Counts) → ((j : ℕ) → j < b.n → a.Word (column a.n b.n y j)) → c.wrong ≡ wrongs r y → c.blank ≡ blanks r
-        → 2 * c.wrong + c.blank < a.d * b.d → Within (grids a b) r y c
-    whole c columns wrong-is blank-is cheap =
-        within (grids a b) (product_apart a b p q) r e y c (record { sized = long; columns = columns; rows = λ i h. (rows i h).word }) wrong-is blank-is cheap
+-- the numbers as the code has them: m columns were found, and the n1 rows decoded at d
+module _ (a b : Codebook) (p : Apart a) (small : a.q ≤ blank) (same : a.q ≡ b.q) (r x ws : List ℕ) (e : length r ≡ a.n * b.n)
+    {m n1 d : ℕ} (em : m ≡ b.n) (e1 : n1 ≡ a.n) (ed : d ≡ a.d) (columns : ColumnsFound a m r x ws) where
+  found : ColumnsFound a b.n r x ws
+  found = subst (λ (k : ℕ). ColumnsFound a k r x ws) em columns
+
+  pub weighed : (i : ℕ) → i < n1 → Weighed b d ws (row b.n x i)
+  weighed i h = subst (λ (k : ℕ). Weighed b k ws (row b.n x i)) (sym ed) (rows_weighed a b p small r x ws e found same i (omega (arith, e1, h)))
+
+  pub row_lost : (y : List ℕ) → RowsDecoded b d ws n1 b.n x y false → Candidate (grids a b) r y false
+  row_lost y h = beyond_row a b p small r x ws e found y (moved (λ n k l. RowsDecoded b l ws n k x y false) e1 refl ed h)
+
+  module _ (q : Apart b) (y : List ℕ) (long : length y ≡ a.n * b.n) (decoded : RowsDecoded b d ws n1 b.n x y true) where
+    rows : RowsDecoded b a.d ws a.n b.n x y true
+    rows = moved (λ n k l. RowsDecoded b l ws n k x y true) e1 refl ed decoded
+
+    pub symbols : Symbols a.q y
+    symbols = rows_symbols a b p small r x ws e found q y long rows same
+
+    pub candidate : (n2 : ℕ) (t : Bool) → n2 ≡ b.n → Says t ((j : ℕ) → j < n2 → a.Word (column n1 n2 y j)) → Candidate (grids a b) r y t
+    candidate n2 true e2 h = (
+      record {
+        sized = long;
+        columns = moved (λ n k l. (j : ℕ) → j < k → a.Word (column n k y j)) e1 e2 ed (h.0 tt);
+        rows = λ i l. (rows i l).word;
+      },
+      only a b p small r x ws e found q y long rows,
+    )
+    candidate n2 false e2 h =
+        beyond_column a b p small r x ws e found q y long rows
+        (λ f. h.1 (moved (λ n k l. (j : ℕ) → j < k → a.Word (column n k y j)) (sym e1) (sym e2) (sym ed) f))
+
+-- ---- the one word that can be within reach
+pub too_far : (s : Codebook) (r y : List ℕ) → Candidate s r y true → s.d ≤ cost r y → Beyond s r
+too_far s r y h far v w =
+    elim (cases_lt (cost r v) s.d) [
+      | inl l ↦ absurd (omega (arith, far, l, ap (cost r) (h.1 v w l)))
+      | inr k ↦ k
+    ]
+
+pub near : (s : Codebook) (p : Apart s) (r y : List ℕ) (c : Counts) → length r ≡ s.n → Candidate s r y true → c.wrong ≡ wrongs r y → c.blank ≡ blanks r
+    → 2 * c.wrong + c.blank < s.d → Within s r y c
+near s p r y c e h wrong-is blank-is cheap = within s p r e y c h.0 wrong-is blank-is cheap

@@ -3,3 +3,4 @@ pub mod Grids
 pub mod Weights
 pub mod Agreement
 pub mod Parts
+pub mod Readings

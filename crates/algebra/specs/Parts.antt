@@ -1,6 +1,6 @@
 -- What the parts of a product's read need and leave. Assumes nothing.
-use Rattle.std.specs.Prelude.{◌≡◌, ℕ, ◌+◌, ◌*◌, ◌<◌, ◌≤◌, max, Bool, true, false, T, ◌≢◌, List, length, slice_index}
-use Rattle.code.specs.Cells.{good, blank, cost}
+use Rattle.std.specs.Prelude.{◌≡◌, ℕ, ◌+◌, ◌*◌, ◌<◌, ◌≤◌, Bool, true, false, T, ◌≢◌, List, length, slice_index}
+use Rattle.code.specs.Cells.{Holds, blank, cost}
 use Rattle.code.specs.declared.cells.Content.TheVariants.{Received}
 use Rattle.code.specs.Codes.{Codebook, Layout, Carries}
 use Rattle.algebra.specs.Grids.{row}
@@ -16,7 +16,7 @@ pub record Ready (s : Codebook) (n lent : ℕ) : Type 0 where
 
 -- each cell is a symbol or a blank
 abbrev pub Taken : ℕ → List ℕ → Type 0
-Taken q r = (i : ℕ) → i < length r → good Received q (slice_index r i) ≡ true
+Taken = Holds Received
 
 -- each cell is a symbol
 abbrev pub Symbols : ℕ → List ℕ → Type 0
@@ -67,20 +67,6 @@ RowsDecoded s d ws n1 n2 x y false = (i : ℕ) × (i < n1) × Heavy s d ws (row 
 -- b says whether P
 abbrev pub Says : Bool → Type 0 → Type 0
 Says b P = (T b → P) × (P → T b)
-
--- how the working cells are cut
-pub record Cut (a b : Codebook) (received grid weights line word rest : ℕ) : Type 0 where
-  pub small : a.n * b.n ≤ 4096
-  pub low1 : a.n ≤ 4096
-  pub low2 : b.n ≤ 4096
-  pub received_is : received ≡ a.n * b.n
-  pub grid_is : grid ≡ a.n * b.n
-  pub weights_is : weights ≡ b.n
-  pub line_is : line ≡ max a.n b.n
-  pub word_is : word ≡ max a.n b.n
-  pub room1 : a.working ≤ rest
-  pub room2 : b.working ≤ rest
-  pub roomy : rest ≤ 16384
 
 -- w is the word that carries m
 abbrev pub Printed : Codebook → Layout → (m w : List ℕ) → Type 0

@@ -5,7 +5,6 @@ ghost use Rattle.algebra.proofs.Products.{product_apart};
 ghost use Rattle.algebra.proofs.Encoded.{product_linear};
 ghost use Rattle.std.proofs.Common.{rules};
 
-use crate::read::attempt;
 use code::{
     Code, Counts, MAX_LENGTH, MAX_WORKING, Refusal, check_encode, check_lawful, check_read,
     check_take_out, zero_front,
@@ -89,13 +88,7 @@ impl<A: Code, B: Code<Symbols = A::Symbols>> Code for Product<A, B> {
         let n = self.length();
         let working = self.working_cells();
         check_read(n, working, received, answer, work)?;
-        let verdict = attempt(
-            &self.columns,
-            &self.rows,
-            received,
-            answer,
-            &mut work[0..working],
-        );
+        let verdict = self.attempt(received, answer, &mut work[0..working]);
         zero_front(work, working);
         verdict
     }

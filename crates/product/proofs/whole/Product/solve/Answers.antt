@@ -1,0 +1,46 @@
+use Rattle.std.proofs.Common.{◌≡◌, ℕ, ◌*◌, ◌≤◌, List, sym, subst, arith}
+use Rattle.algebra.specs.Grids.{grids}
+use Rattle.code.specs.Codes.{Codebook, Apart}
+use Rattle.code.specs.Calls.{Within}
+use Rattle.algebra.proofs.Places.{side1, side2}
+use Rattle.algebra.proofs.Products.{product_apart}
+use Rattle.algebra.proofs.Wholes.{near}
+use Rattle.product.proofs.whole.Product.solve.Goals as goal
+
+-- the factors of a small product are small
+rows_small : (a : Codebook) (m : ℕ) → Apart a → a.n * m ≤ 4096 → m ≤ 4096
+rows_small a m p h = side2 a.n m 4096 (omega (arith, p.positive, p.short)) h
+
+columns_small : (b : Codebook) (m : ℕ) → Apart b → m * b.n ≤ 4096 → m ≤ 4096
+columns_small b m q h = side1 m b.n 4096 (omega (arith, q.positive, q.short)) h
+
+pub length_of-requires : goal.length_of-requires
+length_of-requires g c = rows_small (g.A.Code.codebook c.args.self.now.columns) _ (g.met.A.Code.apart c.args.self.now.columns) c.requires.size.0
+
+pub decode-requires-clause-columns_ready : goal.decode-requires-clause-columns_ready
+decode-requires-clause-columns_ready g c = record {
+  short = columns_small (g.B.Code.codebook c.args.self.now.rows) _ (g.met.B.Code.apart c.args.self.now.rows) c.requires.size.0;
+  room = omega arith;
+  roomy = omega arith;
+  symbols = c.requires.symbols;
+}
+
+pub decode-requires-clause-rows_ready : goal.decode-requires-clause-rows_ready
+decode-requires-clause-rows_ready g c = record {
+  short = rows_small (g.A.Code.codebook c.args.self.now.columns) _ (g.met.A.Code.apart c.args.self.now.columns) c.requires.size.0;
+  room = omega arith;
+  roomy = omega arith;
+  symbols = omega (arith, c.requires.same, c.requires.symbols);
+}
+
+pub distance_of-d2-requires : goal.distance_of-d2-requires
+distance_of-d2-requires g c = rows_small (g.A.Code.codebook c.args.self.now.columns) _ (g.met.A.Code.apart c.args.self.now.columns) c.requires.size.0
+
+pub returns : goal.returns
+returns g c =
+    let a = g.A.Code.codebook c.args.self.now.columns in
+    let b = g.B.Code.codebook c.args.self.now.rows in
+    let limit : c.distance_of-d1.result * c.distance_of-d2.result ≡ a.d * b.d = cc in
+    subst (λ (w : List ℕ). Within (grids a b) c.args.received.now w c.in_ok-counts.counts) (sym c.copy_from_slice.ensures.after)
+    (near (grids a b) (product_apart a b (g.met.A.Code.apart c.args.self.now.columns) (g.met.B.Code.apart c.args.self.now.rows)) c.args.received.now c.decode.new.grid c.in_ok-counts.counts
+    c.requires.size.1 c.if-not-decode.ensures c.in_ok-counts.ensures.is.1 c.in_ok-counts.ensures.is.2 (omega (arith, c.if-counts-d1.false, limit)))
