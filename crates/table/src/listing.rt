@@ -20,7 +20,13 @@ pub(crate) struct Survey {
 fn weigh(word: &[u16]) -> usize
     ensures { result ≡ count_by (λ x. not (x == 0)) word.now }
 {
-    word.iter().filter(|symbol| **symbol != 0).count()
+    let mut weight = 0;
+    for symbol in word {
+        if *symbol != 0 {
+            weight += 1;
+        }
+    }
+    weight
 }
 
 // The counts of the received cells against a word of their length.
