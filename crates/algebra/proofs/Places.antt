@@ -196,3 +196,9 @@ rows_more P at n high l p m xs ys e z same size inside other before here =
     below_more (λ k. P k (row n (put_mid (p * n) m xs ys) (at k))) l
     (λ k h. subst (P k) (sym (row_other n p (at k) m xs ys (λ q. other k h (q ∙ e)) z put (fits k (omega arith)) long)) (before k h))
     (subst (λ (x : ℕ). P l (row n (put_mid (p * n) m xs ys) x)) e (subst (P l) (sym (row_same n p m xs ys z put long)) here))
+
+-- the working cells after a call worked on the first of them, and wiped those
+pub wiped : (w m : ℕ) (xs ys zs : List ℕ) → w ≡ m → w ≤ length xs → length ys ≡ length (take w xs) → zs ≡ zeroed w (ys ++ drop w xs) → zs ≡ zeroed m xs
+wiped w m xs ys zs p h long e =
+    let z : w ≡ w - 0 = omega arith in
+    wiped_part w m xs ys zs p (omega (arith, long, length-take w xs)) h (e ∙ ap (λ (x : ℕ). zeroed w (ys ++ drop x xs)) z)

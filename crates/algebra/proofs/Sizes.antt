@@ -115,3 +115,9 @@ limits_told n room i i' a a' w w' (Ok u) h = within_limits n room i i' a a' w w'
 pub both_made : (P Q R : Type 0) (r : Verdict) → (P → Q → R) → IfOk r (λ _. P) → IfOk r (λ _. Q) → IfOk r (λ _. R)
 both_made P Q R (Ok u) f p q = f p q
 both_made P Q R (Err e) f p q = tt
+
+-- past the gate the working cells are as answered
+pub worked : (s : Codebook) (n w i i' a a' k k' : ℕ) → n ≡ answered s.n → w ≡ answered_working s → ◌≡◌ {A = Verdict} (Ok tt) (gauge n w i i' a a' k k') → w ≡ s.working
+worked s n w i i' a a' k k' p q e =
+    let limits = within_limits n w i i' a a' k k' e in
+    omega (arith, limits.1, room_of s w q (omega (arith, limits.0, p)))
