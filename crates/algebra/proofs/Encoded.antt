@@ -4,9 +4,10 @@ use lib.Arith.{digits_lt}
 use Rattle.std.proofs.lemmas.Nat.{div-add-mod', div-mul-add, mod-mul-add}
 use Rattle.code.specs.Cells.{listed}
 use Rattle.alphabet.specs.Rings.{Ring}
-use Rattle.code.specs.Codes.{Codebook, Layout, Apart, Linear, Message, Carries}
+use Rattle.code.specs.Codes.{Codebook, Layout, Apart, Linear, Message, Carries, taken}
 use Rattle.alphabet.specs.Sums.{added}
 use Rattle.algebra.specs.Grids.{row, column, Grid, grids, laid}
+use Rattle.algebra.specs.Parts.{Printed, Symbols}
 use Rattle.code.proofs.Rows.{length-listed, get_or-listed, listed_same, listed-get_or, constant_listed, low_cells}
 use Rattle.alphabet.proofs.Symbols.{zero_in}
 use Rattle.algebra.proofs.Grids.{parts_in, row_at, column_at, grid_listed, same_columns}
@@ -196,3 +197,23 @@ module _ {a b : Codebook} {la lb : Layout} {q : ℕ} {add mul : ℕ → ℕ → 
     carried = product-carried;
     once = λ m u v M. product_once m M u v;
   }
+
+-- ---- what a program prints: h after its rows, g after its columns
+module _ {a b : Codebook} {la lb : Layout} {q : ℕ} {add mul : ℕ → ℕ → ℕ} {neg : ℕ → ℕ} (ring : Ring q add neg mul) (qa : a.q ≡ q) (qb : b.q ≡ q)
+    (pa : Apart a) (pb : Apart b) (ll : Linear a la add mul) (lr : Linear b lb add mul) (m h : List ℕ)
+    (rows : (l : ℕ) → l < la.k → Printed b lb (row lb.k m l) (row b.n h (la.place l))) where
+  stands : (j l : ℕ) → l < la.k → get_or (column a.n b.n h j) (la.place l) 0 ≡ get_or h (la.place l * b.n + j) 0
+  stands j l d = column_at a.n b.n h (la.place l) j (ll.inside l d)
+
+  pub printed_symbols : (j : ℕ) → j < b.n → Symbols a.q (taken la (column a.n b.n h j))
+  printed_symbols j k i d =
+      let f : ℕ → ℕ = λ l. get_or (column a.n b.n h j) (la.place l) 0 in
+      let i' : i < la.k = omega (arith, length-listed la.k f, d) in
+      omega (arith, get_or-listed la.k f i i', stands j i i', row_at b.n h (la.place i) j k, pb.symbols _ (rows i i').0 j k, qa, qb)
+
+  pub printed_grid : (g : List ℕ) → length g ≡ a.n * b.n
+      → ((j : ℕ) → j < b.n → Printed a la (taken la (column a.n b.n h j)) (column a.n b.n g j))
+      → Printed (grids a b) (laid b la lb) m g
+  printed_grid g e columns =
+      encoded_grid ring qa qb pa pb ll lr m h g e (λ l d. (rows l d).0) (λ l d. (rows l d).1) (λ j k. (columns j k).0)
+      (λ j k. subst (λ x. Carries la x (column a.n b.n g j)) (listed_same la.k _ _ (stands j)) (columns j k).1)

@@ -9,8 +9,8 @@ use Rattle.code.specs.declared.cells.Content.TheVariants.{Word, Received}
 use Rattle.code.specs.declared.cells.Counts.{Counts}
 use Rattle.code.specs.declared.refusals.Refusal.{Refusal}
 use Rattle.code.specs.Cells.{good, blank, cost, listed}
-use Rattle.code.specs.Codes.{Codebook, Layout, Carries}
-use Rattle.algebra.specs.Grids.{row, column}
+use Rattle.code.specs.Codes.{Codebook, Layout, Apart, Carries}
+use Rattle.algebra.specs.Grids.{row, column, grids}
 use Rattle.code.specs.Refusals.{clean, then}
 use Rattle.code.specs.Calls.{reads, found, Reads, judges, judged, Judges, encodes, Encodes, Within, Beyond}
 use Rattle.code.proofs.Rows.{length-listed, get_or-listed, listed_same}
@@ -20,7 +20,7 @@ use Rattle.algebra.specs.Weights.{cut, heft, Found}
 use Rattle.algebra.proofs.Averages.{some_cut}
 use Rattle.algebra.proofs.Grids.{column_at, row_at}
 use Rattle.algebra.specs.Parts.{Ready, Taken, Symbols, Weighed, Light, Heavy, HeavyAt, Tried, Renewed, Says}
-use Rattle.algebra.proofs.Places.{at}
+use Rattle.algebra.proofs.Places.{at, side1, side2}
 use Rattle.algebra.proofs.Sizes.{gauge}
 
 -- ---- gates that are open
@@ -198,3 +198,26 @@ or_no s r (Err x) b h e = absurd h
 pub judge_says : {s : Codebook} {r k k' : List ℕ} {res : Result Bool Refusal} {b : Bool} → Ready s (length r) (length k) → Symbols s.q r
     → Judges s r k k' res → b ≡ result_unwrap_or res false → Says b (s.Word r)
 judge_says {s} {r} {k} {k'} {res} {b} ready low h e = or_no s r res b (judge_passes s r k k' res ready low h) e
+
+-- ---- where a product is ready its factors are, on what is left of the working cells
+module _ {a b : Codebook} (p : Apart a) (q : Apart b) {n lent : ℕ} (h : Ready (grids a b) n lent) where
+  small : a.n * b.n ≤ 4096
+  small = omega (arith, h.long, h.short)
+
+  pub ready_columns : (m k : ℕ) → m ≡ a.n → a.working ≤ k → Ready a m k
+  ready_columns m k e l = record {
+    long = sym e;
+    short = omega (arith, side1 a.n b.n 4096 (omega (arith, q.positive, q.short)) small);
+    room = l;
+    roomy = omega (arith, h.roomy);
+    symbols = h.symbols;
+  }
+
+  pub ready_rows : a.q ≡ b.q → (m k : ℕ) → m ≡ b.n → b.working ≤ k → Ready b m k
+  ready_rows same m k e l = record {
+    long = sym e;
+    short = omega (arith, side2 a.n b.n 4096 (omega (arith, p.positive, p.short)) small);
+    room = l;
+    roomy = omega (arith, h.roomy);
+    symbols = omega (arith, h.symbols, same);
+  }

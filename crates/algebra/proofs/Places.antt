@@ -1,10 +1,11 @@
 -- Places of a grid, and what one write more leaves of its rows and columns. Assumes nothing.
-use Rattle.std.proofs.Common.{◌≡◌, ℕ, suc, ◌+◌, ◌-◌, ◌*◌, ◌<◌, ◌≤◌, min, ◌≢◌, List, ◌++◌, length, get_or, take, drop, set, sym, ap, ◌∙◌, inl, inr, mul-le-mul_right, suc-mul, mul-le-mul_left, zero-mul, arith, length-drop, length-take, get_or-set_other, get_or-set_same, ext_get_or, below_more}
+use Rattle.std.proofs.Common.{◌≡◌, ℕ, suc, ◌+◌, ◌-◌, ◌*◌, ◌<◌, ◌≤◌, min, ◌≢◌, List, ◌++◌, length, get_or, take, drop, set, sym, ap, ◌∙◌, subst, inl, inr, mul-le-mul_right, suc-mul, mul-le-mul_left, zero-mul, arith, length-drop, length-take, get_or-set_other, get_or-set_same, ext_get_or, below_more}
 use lib.Arith.{digits_lt}
 use borrow.Rule.Slice.PartMut.{put_mid}
 use Rattle.std.proofs.lemmas.Bool.{cases_lt, cases_order}
 use Rattle.std.proofs.lemmas.Slice.{take-put_mid_below, between-put_mid, drop-put_mid}
-use Rattle.std.proofs.lemmas.List.{drop-take, length-append}
+use Rattle.std.proofs.lemmas.List.{drop-take, drop-drop, length-append}
+use Rattle.std.proofs.Math.Seq.{take-append_seam, drop-append_seam}
 use Rattle.code.specs.Cells.{zeroed}
 use Rattle.algebra.specs.Grids.{row}
 use Rattle.code.proofs.Rows.{zeroed-over}
@@ -142,3 +143,56 @@ wiped_part w W xs ys zs p q h e = e ∙ zeroed-over w ys xs q h ∙ ap (λ (x : 
 
 pub part_long : (m n : ℕ) (xs : List ℕ) → m ≡ n → n ≤ length xs → length (take (m - 0) xs) ≡ n
 part_long m n xs e h = simp length-take (omega arith)
+
+-- ---- rows taken one after the other
+-- line is row i of the grid w, and rest what stands after it
+pub record Next (n i : ℕ) (w line rest : List ℕ) : Type 0 where
+  pub inside : i * n + n ≤ length w
+  pub line_is : line ≡ row n w i
+  pub rest_is : rest ≡ drop ((i + 1) * n) w
+
+pub next_row : (n i : ℕ) (w left line rest : List ℕ) → 0 < n → left ≡ drop (i * n) w → left ≡ line ++ rest → length line ≡ n → Next n i w line rest
+next_row n i w left line rest pos e f z =
+    let both : drop (i * n) w ≡ line ++ rest = sym e ∙ f in
+    let inside : i * n + n ≤ length w = omega (arith, length-drop (i * n) w, ap length both, length-append line rest) in
+    let far : (i + 1) * n ≡ i * n + n = omega arith in
+    record {
+      inside = inside;
+      line_is = sym (take-append_seam line rest) ∙ ap (λ (x : ℕ). take x (line ++ rest)) z ∙ ap (take n) (sym both) ∙ row_is_slice n i w inside;
+      rest_is = sym (drop-append_seam line rest) ∙ ap (λ (x : ℕ). drop x (line ++ rest)) z ∙ ap (drop n) (sym both) ∙ drop-drop n (i * n) w ∙ ap (λ (x : ℕ). drop x w) (sym far);
+    }
+
+-- the first rows were taken, done in number, each of the size n: rest is left
+pub record Passed (n size done : ℕ) (w rest : List ℕ) : Type 0 where
+  pub size_is : size ≡ n
+  pub rest_is : rest ≡ drop (done * n) w
+
+pub passed_next : {n size i : ℕ} {w left line rest : List ℕ} → 0 < size → Passed n size i w left → left ≡ line ++ rest → length line ≡ size → Next n i w line rest
+passed_next {n} {size} {i} {w} {left} {line} {rest} pos h f z = next_row n i w left line rest (omega (arith, h.size_is)) h.rest_is f (z ∙ h.size_is)
+
+pub passed_all : {n size i : ℕ} {w rest : List ℕ} → Passed n size i w rest → length rest < size → (k : ℕ) → k * n + n ≤ length w → k < i
+passed_all {n} {size} {i} {w} {rest} h few k l =
+    elim (cases_lt k i) [
+      | inl p ↦ p
+      | inr p ↦ absurd (omega (arith, h.size_is, ap length h.rest_is, length-drop (i * n) w, mul-le-mul_right n p))
+    ]
+
+-- a row that fits in the grid is one of its rows
+pub row_within : (n k i : ℕ) → 0 < n → k * n + n ≤ i * n → k < i
+row_within n k i pos h =
+    elim (cases_lt k i) [
+      | inl p ↦ p
+      | inr p ↦ absurd (omega (arith, mul-le-mul_right n p))
+    ]
+
+-- one row more is written, each at a place of its own
+pub rows_more : (P : ℕ → List ℕ → Type 0) (at : ℕ → ℕ) (n high l p m : ℕ) (xs ys : List ℕ) → p ≡ at l → m ≡ n → length ys ≡ length (take m (drop (p * n) xs)) → length xs ≡ high * n
+    → ((k : ℕ) → k < l + 1 → at k < high) → ((k : ℕ) → k < l → at k ≢ at l)
+    → ((k : ℕ) → k < l → P k (row n xs (at k))) → P l ys → (k : ℕ) → k < l + 1 → P k (row n (put_mid (p * n) m xs ys) (at k))
+rows_more P at n high l p m xs ys e z same size inside other before here =
+    let fits : (k : ℕ) → k < l + 1 → at k * n + n ≤ length xs = λ k h. omega (arith, row_end n (at k) high (inside k h), size) in
+    let put : p * n + m ≤ length xs = omega (arith, fits l (omega arith), ap (λ (x : ℕ). x * n) e) in
+    let long : length ys ≡ m = omega (arith, same, length-take m (drop (p * n) xs), length-drop (p * n) xs) in
+    below_more (λ k. P k (row n (put_mid (p * n) m xs ys) (at k))) l
+    (λ k h. subst (P k) (sym (row_other n p (at k) m xs ys (λ q. other k h (q ∙ e)) z put (fits k (omega arith)) long)) (before k h))
+    (subst (λ (x : ℕ). P l (row n (put_mid (p * n) m xs ys) x)) e (subst (P l) (sym (row_same n p m xs ys z put long)) here))

@@ -2,7 +2,7 @@
 use Rattle.std.specs.Prelude.{◌≡◌, ℕ, ◌+◌, ◌*◌, ◌<◌, ◌≤◌, Bool, true, false, T, ◌≢◌, List, length, slice_index}
 use Rattle.code.specs.Cells.{good, blank, cost}
 use Rattle.code.specs.declared.cells.Content.TheVariants.{Received}
-use Rattle.code.specs.Codes.{Codebook}
+use Rattle.code.specs.Codes.{Codebook, Layout, Carries}
 use Rattle.algebra.specs.Grids.{row}
 use Rattle.algebra.specs.Weights.{cut, heft}
 
@@ -67,3 +67,7 @@ RowsDecoded s d ws n1 n2 x y false = (i : ℕ) × (i < n1) × Heavy s d ws (row 
 -- b says whether P
 abbrev pub Says : Bool → Type 0 → Type 0
 Says b P = (T b → P) × (P → T b)
+
+-- w is the word that carries m
+abbrev pub Printed : Codebook → Layout → (m w : List ℕ) → Type 0
+Printed b l m w = b.Word w × Carries l m w

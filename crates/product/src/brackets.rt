@@ -1,7 +1,6 @@
 // Reads of the same cells by the two products of three codes, which agree.
 ghost use Rattle.std.specs.Prelude.{◌≡◌, Ok};
 ghost use Rattle.code.specs.Calls.{read_checks, Reads};
-ghost use Rattle.algebra.specs.Grids.{grids};
 ghost use Rattle.algebra.specs.Agreement.{Agree};
 
 use crate::whole::Product;
@@ -17,9 +16,9 @@ pub fn both_ways<A: Code, B: Code<Symbols = A::Symbols>, C: Code<Symbols = A::Sy
     work: &mut [u16],
     spare: &mut [u16],
 ) -> (Result<Counts, Refusal>, Result<Counts, Refusal>)
-    ensures left { Reads (grids (grids (A.Code.codebook left.now.columns.columns) (B.Code.codebook left.now.columns.rows)) (C.Code.codebook left.now.rows)) received.now first.old first.new work.old work.new result.0 }
-    ensures right { Reads (grids (A.Code.codebook right.now.columns) (grids (B.Code.codebook right.now.rows.columns) (C.Code.codebook right.now.rows.rows))) received.now second.old second.new spare.old spare.new result.1 }
-    ensures same { left.now.columns.columns ≡ right.now.columns → left.now.columns.rows ≡ right.now.rows.columns → left.now.rows ≡ right.now.rows.rows → read_checks (grids (grids (A.Code.codebook left.now.columns.columns) (B.Code.codebook left.now.columns.rows)) (C.Code.codebook left.now.rows)) received.now first.old work.old ≡ Ok tt → read_checks (grids (A.Code.codebook right.now.columns) (grids (B.Code.codebook right.now.rows.columns) (C.Code.codebook right.now.rows.rows))) received.now second.old spare.old ≡ Ok tt → Agree first.new second.new result.0 result.1 }
+    ensures left { Reads (⟦<Product<Product<A, B>, C> as Code>⟧.codebook left.now) received.now first.old first.new work.old work.new result.0 }
+    ensures right { Reads (⟦<Product<A, Product<B, C>> as Code>⟧.codebook right.now) received.now second.old second.new spare.old spare.new result.1 }
+    ensures same { left.now.columns.columns ≡ right.now.columns → left.now.columns.rows ≡ right.now.rows.columns → left.now.rows ≡ right.now.rows.rows → read_checks (⟦<Product<Product<A, B>, C> as Code>⟧.codebook left.now) received.now first.old work.old ≡ Ok tt → read_checks (⟦<Product<A, Product<B, C>> as Code>⟧.codebook right.now) received.now second.old spare.old ≡ Ok tt → Agree first.new second.new result.0 result.1 }
 {
     let one = left.read(received, first, work);
     let two = right.read(received, second, spare);

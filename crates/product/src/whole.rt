@@ -5,10 +5,10 @@ ghost use Rattle.algebra.proofs.Products.{product_apart};
 ghost use Rattle.algebra.proofs.Encoded.{product_linear};
 ghost use Rattle.std.proofs.Common.{rules};
 
-use crate::judge::judge;
-use crate::pick::{combine_places, take, take_sizes};
-use crate::print::{encode_sizes, print};
-use code::{Code, Counts, MAX_LENGTH, MAX_WORKING, Refusal, check_lawful, check_read, zero_front};
+use code::{
+    Code, Counts, MAX_LENGTH, MAX_WORKING, Refusal, check_encode, check_lawful, check_read,
+    check_take_out, zero_front,
+};
 
 // Columns are words of the first code and rows words of the second.
 #[derive(Drop)]
@@ -76,7 +76,7 @@ impl<A: Code, B: Code<Symbols = A::Symbols>> Code for Product<A, B> {
         if self.length() > MAX_LENGTH {
             return None;
         }
-        combine_places(&self.columns, &self.rows, i)
+        self.combine_places(i)
     }
 
     fn read(
@@ -97,7 +97,7 @@ impl<A: Code, B: Code<Symbols = A::Symbols>> Code for Product<A, B> {
         let n = self.length();
         let w = self.working_cells();
         check_lawful(n, w, cells, work)?;
-        let verdict = judge(&self.columns, &self.rows, cells, &mut work[0..w]);
+        let verdict = self.judge(cells, &mut work[0..w]);
         zero_front(work, w);
         verdict
     }
@@ -106,8 +106,8 @@ impl<A: Code, B: Code<Symbols = A::Symbols>> Code for Product<A, B> {
         let n = self.length();
         let k = self.message_length();
         let w = self.working_cells();
-        encode_sizes(&self.columns, &self.rows, n, k, w, message, answer, work)?;
-        let verdict = print(&self.columns, &self.rows, message, answer, &mut work[0..w]);
+        check_encode(n, k, w, message, answer, work)?;
+        let verdict = self.print(message, answer, &mut work[0..w]);
         zero_front(work, w);
         verdict
     }
@@ -116,7 +116,7 @@ impl<A: Code, B: Code<Symbols = A::Symbols>> Code for Product<A, B> {
         let n = self.length();
         let k = self.message_length();
         let w = self.working_cells();
-        take_sizes(&self.columns, &self.rows, n, k, w, word, answer)?;
-        take(&self.columns, &self.rows, word, answer)
+        check_take_out(n, k, w, word, answer)?;
+        self.take(word, answer)
     }
 }

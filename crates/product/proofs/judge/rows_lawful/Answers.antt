@@ -1,47 +1,41 @@
-use Rattle.std.proofs.Common.{◌≡◌, ℕ, ◌+◌, ◌-◌, ◌*◌, ◌≤◌, List, length, get_or, take, drop, sym, ap, ◌∙◌, subst, arith, below_more}
+use Rattle.std.proofs.Common.{ℕ, ◌*◌, List, length, drop, subst, sym, ap, ◌∙◌, arith, below_more}
+use Rattle.std.proofs.lemmas.List.{length_push}
 use Rattle.algebra.specs.Grids.{row}
-use Rattle.code.proofs.Rows.{length-listed}
-use Rattle.algebra.proofs.Places.{row_end, row-part}
 use Rattle.algebra.proofs.Lines.{ready_at, row_symbols}
+use Rattle.algebra.proofs.Places.{passed_next, passed_all}
 use Rattle.product.proofs.judge.rows_lawful.Goals as goal
-
-pub offset_bounds-grid-from : goal.offset_bounds-grid-from
-offset_bounds-grid-from g c = omega (arith, row_end c.args.n2 c.loop-i.i c.args.n1 c.loop-i-test.true)
-
-pub slice_bounds-line_lawful-end : goal.slice_bounds-line_lawful-end
-slice_bounds-line_lawful-end g c = omega (arith, row_end c.args.n2 c.loop-i.i c.args.n1 c.loop-i-test.true)
 
 pub line_lawful-requires : goal.line_lawful-requires
 line_lawful-requires g c =
-    let s = g.C.Code.codebook c.args.code.now in
-    let i : ℕ = c.loop-i.i in
-    let n : ℕ = c.args.n2 in
-    let x : List ℕ = c.args.grid.now in
-    let end = row_end n i c.args.n1 c.loop-i-test.true in
-    let fits : i * n + n ≤ length x = omega (arith, end, c.requires.fits.0) in
-    let same : take (i * n + n - i * n) (drop (i * n) x) ≡ row n x i = row-part n i x fits in
-    let long : length (take (i * n + n - i * n) (drop (i * n) x)) ≡ n = ap length same ∙ length-listed n (λ j. get_or x (i * n + j) 0) in
+    let steps = c.in-Some.ensures.steps in
+    let rows = c.loop-line.invariant.2 in
+    let next = passed_next c.loop-line.invariant.0 rows steps.1.0 steps.1.1 in
     record {
-      ready = ready_at s n _ _ _ long c.loop-i.auto.rest c.requires.ready;
-      symbols = row_symbols s.q n i x _ fits same c.requires.symbols;
+      ready = ready_at _ _ _ _ _ (steps.1.1 ∙ rows.size_is) c.loop-line.auto.rest c.requires.ready;
+      symbols = row_symbols _ _ _ _ _ next.inside next.line_is c.requires.symbols;
     }
 
 pub returns-then-not-line_lawful : goal.returns-then-not-line_lawful
 returns-then-not-line_lawful g c =
     let s = g.C.Code.codebook c.args.code.now in
-    let i : ℕ = c.loop-i.i in
-    let n : ℕ = c.args.n2 in
-    let x : List ℕ = c.args.grid.now in
-    let end = row_end n i c.args.n1 c.loop-i-test.true in
-    let fits : i * n + n ≤ length x = omega (arith, end, c.requires.fits.0) in
-    (λ t. absurd t, λ h. c.if-not-line_lawful.ensures.1 (subst (λ (y : List ℕ). s.Word y) (sym (row-part n i x fits)) (h i c.loop-i-test.true)))
+    let steps = c.in-Some.ensures.steps in
+    let next = passed_next c.loop-line.invariant.0 c.loop-line.invariant.2 steps.1.0 steps.1.1 in
+    (λ t. absurd t, λ h. c.if-not-line_lawful.ensures.1 (subst s.Word (sym next.line_is) (h (length c.loop-line.yielded) next.inside)))
 
-pub loop-i-preserved : goal.loop-i-preserved
-loop-i-preserved g c =
+pub loop-line-preserved : goal.loop-line-preserved
+loop-line-preserved g c =
     let s = g.C.Code.codebook c.args.code.now in
-    let i : ℕ = c.loop-i.i in
     let n : ℕ = c.args.n2 in
     let x : List ℕ = c.args.grid.now in
-    let end = row_end n i c.args.n1 c.loop-i-test.true in
-    let fits : i * n + n ≤ length x = omega (arith, end, c.requires.fits.0) in
-    below_more (λ k. s.Word (row n x k)) i c.loop-i.invariant (subst (λ (y : List ℕ). s.Word y) (row-part n i x fits) (c.if-not-line_lawful.ensures.0 tt))
+    let steps = c.in-Some.ensures.steps in
+    let rows = c.loop-line.invariant.2 in
+    let next = passed_next c.loop-line.invariant.0 rows steps.1.0 steps.1.1 in
+    let one_more = length_push c.loop-line.yielded c.in-Some.line in (
+      omega (arith, steps.0, c.loop-line.invariant.0),
+      tt,
+      record { size_is = steps.0 ∙ rows.size_is; rest_is = next.rest_is ∙ ap (λ (i : ℕ). drop (i * n) x) (sym one_more) },
+      λ k l. below_more (λ i. s.Word (row n x i)) _ c.loop-line.invariant.3 (subst s.Word next.line_is (c.if-not-line_lawful.ensures.0 tt)) k (omega (arith, one_more, l)),
+    )
+
+pub returns : goal.returns
+returns g c = (λ t i l. c.loop-line.invariant.3 i (passed_all c.loop-line.invariant.2 c.in-None.ensures.steps.1.0 i l), λ h. tt)

@@ -1,16 +1,36 @@
-use Rattle.std.proofs.Common.{ℕ, List, refl, ◌∙◌}
-use Rattle.algebra.specs.Grids.{grids}
+use Rattle.std.proofs.Common.{◌≡◌, ℕ, List, length, refl, ◌∙◌, mul-le-mul, arith, rules}
+use Rattle.std.proofs.lemmas.Grind.{common_steps}
+use Rattle.algebra.specs.Grids.{grids, laid}
 use Rattle.code.proofs.Checks.{encodes-sized}
 use Rattle.algebra.proofs.Places.{wiped_part, part_long}
+use Rattle.algebra.proofs.Sizes.{within_limits, gate_encode, room_of}
 use Rattle.product.proofs.whole.ProductCode.encode.Goals as goal
+
+pub returns-in_err-check_encode : goal.returns-in_err-check_encode
+returns-in_err-check_encode g c =
+    let few = mul-le-mul (g.met.A.Code.linear c.args.self.now.columns).few (g.met.B.Code.linear c.args.self.now.rows).few in
+    search rules
+
+pub print-verdict-requires-clause-long : goal.print-verdict-requires-clause-long
+print-verdict-requires-clause-long g c =
+    let few = mul-le-mul (g.met.A.Code.linear c.args.self.now.columns).few (g.met.B.Code.linear c.args.self.now.rows).few in
+    grind (arith, common_steps)
 
 pub returns : goal.returns
 returns g c =
     let b = g.B.Code.codebook c.args.self.now.rows in
     let s = grids (g.A.Code.codebook c.args.self.now.columns) b in
+    let l = laid b (g.A.Code.layout c.args.self.now.columns) (g.B.Code.layout c.args.self.now.rows) in
+    let few = mul-le-mul (g.met.A.Code.linear c.args.self.now.columns).few (g.met.B.Code.linear c.args.self.now.rows).few in
+    let m : ℕ = length c.args.message.now in
+    let a : ℕ = length c.args.answer.now in
     let k : List ℕ = c.args.work.now in
+    let n : ℕ = c.length-n.result in
     let w : ℕ = c.working_cells-w.result in
-    let fit = c.in_ok-encode_sizes.ensures.passed in
-    encodes-sized c.in_ok-encode_sizes.ensures.is
-    (wiped_part w s.working k c.print-verdict.new.work c.zero_front.new.cells fit.4 (c.print-verdict.auto.work ∙ part_long w w k refl fit.3) fit.3 c.zero_front.ensures)
+    let fit = c.in_ok-check_encode.ensures.passed in
+    let is = c.in_ok-check_encode.ensures.is in
+    let limits = within_limits n w m c.message_length-k.result a n (length k) w is in
+    let wide : w ≡ s.working = omega (arith, limits.1, room_of s w c.working_cells-w.ensures (omega (arith, limits.0, c.length-n.ensures))) in
+    encodes-sized (is ∙ gate_encode s n w m c.message_length-k.result l.k a (length k) c.length-n.ensures c.working_cells-w.ensures c.message_length-k.ensures few)
+    (wiped_part w s.working k c.print-verdict.new.work c.zero_front.new.cells wide (c.print-verdict.auto.work ∙ part_long w w k refl fit.2) fit.2 c.zero_front.ensures)
     c.print-verdict.ensures
