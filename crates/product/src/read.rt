@@ -314,10 +314,9 @@ impl<A: Code, B: Code<Symbols = A::Symbols>> Product<A, B> {
     ) -> bool
         requires columns_ready { Roomy (A.Code.codebook self.now.columns) (length lines.old) }
         requires rows_ready { Roomy (B.Code.codebook self.now.rows) (length lines.old) }
-        requires fits { (length received.now ≡ (grids (A.Code.codebook self.now.columns) (B.Code.codebook self.now.rows)).n) × (length grid.old ≡ length received.now) × (length grid.old ≤ 4096) × (length weights.old ≡ (B.Code.codebook self.now.rows).n) }
-        requires same { (A.Code.codebook self.now.columns).q ≡ (B.Code.codebook self.now.rows).q }
-        requires taken { Taken (A.Code.codebook self.now.columns).q received.now }
-        ensures { Candidate (grids (A.Code.codebook self.now.columns) (B.Code.codebook self.now.rows)) received.now grid.new result }
+        requires fits { (length received.now ≡ (⟦<Product<A, B> as Code>⟧.codebook self.now).n) × (length grid.old ≡ length received.now) × (length grid.old ≤ 4096) × (length weights.old ≡ (B.Code.codebook self.now.rows).n) }
+        requires taken { Taken (⟦<Product<A, B> as Code>⟧.codebook self.now).q received.now }
+        ensures { Candidate (⟦<Product<A, B> as Code>⟧.codebook self.now) received.now grid.new result }
     {
         let n1 = length_of(&self.columns);
         let n2 = length_of(&self.rows);
@@ -344,13 +343,10 @@ impl<A: Code, B: Code<Symbols = A::Symbols>> Product<A, B> {
         answer: &mut [u16],
         work: &mut [u16],
     ) -> Result<Counts, Refusal>
-        requires size { ((A.Code.codebook self.now.columns).n * (B.Code.codebook self.now.rows).n ≤ 4096) × (length received.now ≡ (A.Code.codebook self.now.columns).n * (B.Code.codebook self.now.rows).n) }
+        requires ready { Ready (⟦<Product<A, B> as Code>⟧.codebook self.now) (length received.now) (length work.old) }
         requires tray { length answer.old ≡ length received.now }
-        requires room { (length work.old ≡ (grids (A.Code.codebook self.now.columns) (B.Code.codebook self.now.rows)).working) × (length work.old ≤ 16384) }
-        requires same { (A.Code.codebook self.now.columns).q ≡ (B.Code.codebook self.now.rows).q }
-        requires symbols { (A.Code.codebook self.now.columns).q ≤ blank }
-        requires taken { Taken (A.Code.codebook self.now.columns).q received.now }
-        ensures { found (grids (A.Code.codebook self.now.columns) (B.Code.codebook self.now.rows)) received.now answer.old answer.new result }
+        requires taken { Taken (⟦<Product<A, B> as Code>⟧.codebook self.now).q received.now }
+        ensures { found (⟦<Product<A, B> as Code>⟧.codebook self.now) received.now answer.old answer.new result }
     {
         let (grid, tail) = work.split_at_mut(received.len());
         let (weights, lines) = tail.split_at_mut(length_of(&self.rows));
@@ -374,10 +370,9 @@ impl<A: Code, B: Code<Symbols = A::Symbols>> Product<A, B> {
         answer: &mut [u16],
         work: &mut [u16],
     ) -> Result<Counts, Refusal>
-        requires size { ((A.Code.codebook self.now.columns).n * (B.Code.codebook self.now.rows).n ≤ 4096) × (length received.now ≡ (A.Code.codebook self.now.columns).n * (B.Code.codebook self.now.rows).n) }
+        requires ready { Ready (⟦<Product<A, B> as Code>⟧.codebook self.now) (length received.now) (length work.old) }
         requires tray { length answer.old ≡ length received.now }
-        requires room { (length work.old ≡ (grids (A.Code.codebook self.now.columns) (B.Code.codebook self.now.rows)).working) × (length work.old ≤ 16384) }
-        ensures { reads (clean (good Received (A.Code.codebook self.now.columns).q) received.now) (grids (A.Code.codebook self.now.columns) (B.Code.codebook self.now.rows)) received.now answer.old answer.new result }
+        ensures { reads (clean (good Received (⟦<Product<A, B> as Code>⟧.codebook self.now).q) received.now) (⟦<Product<A, B> as Code>⟧.codebook self.now) received.now answer.old answer.new result }
     {
         check_cells(received, A::Symbols::Q, Content::Received)?;
         self.solve(received, answer, work)

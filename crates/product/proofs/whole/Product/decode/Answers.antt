@@ -1,24 +1,24 @@
-use Rattle.std.proofs.Common.{◌∙◌}
+use Rattle.std.proofs.Common.{sym, ◌∙◌}
 use Rattle.algebra.proofs.Wholes.{weighed, row_lost, symbols, candidate}
 use Rattle.product.proofs.whole.Product.decode.Goals as goal
 
 pub decode_rows-requires-clause-weighed : goal.decode_rows-requires-clause-weighed
 decode_rows-requires-clause-weighed g c =
     weighed (g.A.Code.codebook c.args.self.now.columns) (g.B.Code.codebook c.args.self.now.rows) (g.met.A.Code.apart c.args.self.now.columns)
-    c.requires.columns_ready.symbols c.requires.same c.args.received.now c.correct_columns.new.grid c.correct_columns.new.weights c.requires.fits.0
+    c.requires.columns_ready.symbols (g.met.A.Code.symbols c.args.self.now.columns ∙ sym (g.met.B.Code.symbols c.args.self.now.rows)) c.args.received.now c.correct_columns.new.grid c.correct_columns.new.weights c.requires.fits.0
     c.requires.fits.3 c.length_of-n1.ensures c.distance_of.ensures.0 c.correct_columns.ensures
 
 pub returns-then-not-decode_rows : goal.returns-then-not-decode_rows
 returns-then-not-decode_rows g c =
     row_lost (g.A.Code.codebook c.args.self.now.columns) (g.B.Code.codebook c.args.self.now.rows) (g.met.A.Code.apart c.args.self.now.columns)
-    c.requires.columns_ready.symbols c.requires.same c.args.received.now c.correct_columns.new.grid c.correct_columns.new.weights c.requires.fits.0
+    c.requires.columns_ready.symbols (g.met.A.Code.symbols c.args.self.now.columns ∙ sym (g.met.B.Code.symbols c.args.self.now.rows)) c.args.received.now c.correct_columns.new.grid c.correct_columns.new.weights c.requires.fits.0
     c.requires.fits.3 c.length_of-n1.ensures c.distance_of.ensures.0 c.correct_columns.ensures c.decode_rows.new.grid c.if-not-decode_rows.ensures
 
 pub columns_lawful-requires-clause-symbols : goal.columns_lawful-requires-clause-symbols
 columns_lawful-requires-clause-symbols g c =
     let long = c.decode_rows.auto.grid ∙ c.correct_columns.auto.grid ∙ c.requires.fits.1 ∙ c.requires.fits.0 in
     symbols (g.A.Code.codebook c.args.self.now.columns) (g.B.Code.codebook c.args.self.now.rows) (g.met.A.Code.apart c.args.self.now.columns)
-    c.requires.columns_ready.symbols c.requires.same c.args.received.now c.correct_columns.new.grid c.correct_columns.new.weights c.requires.fits.0
+    c.requires.columns_ready.symbols (g.met.A.Code.symbols c.args.self.now.columns ∙ sym (g.met.B.Code.symbols c.args.self.now.rows)) c.args.received.now c.correct_columns.new.grid c.correct_columns.new.weights c.requires.fits.0
     c.requires.fits.3 c.length_of-n1.ensures c.distance_of.ensures.0 c.correct_columns.ensures
     (g.met.B.Code.apart c.args.self.now.rows) c.decode_rows.new.grid long c.if-not-decode_rows.ensures
 
@@ -26,7 +26,7 @@ pub returns : goal.returns
 returns g c =
     let long = c.decode_rows.auto.grid ∙ c.correct_columns.auto.grid ∙ c.requires.fits.1 ∙ c.requires.fits.0 in
     candidate (g.A.Code.codebook c.args.self.now.columns) (g.B.Code.codebook c.args.self.now.rows) (g.met.A.Code.apart c.args.self.now.columns)
-    c.requires.columns_ready.symbols c.requires.same c.args.received.now c.correct_columns.new.grid c.correct_columns.new.weights c.requires.fits.0
+    c.requires.columns_ready.symbols (g.met.A.Code.symbols c.args.self.now.columns ∙ sym (g.met.B.Code.symbols c.args.self.now.rows)) c.args.received.now c.correct_columns.new.grid c.correct_columns.new.weights c.requires.fits.0
     c.requires.fits.3 c.length_of-n1.ensures c.distance_of.ensures.0 c.correct_columns.ensures
     (g.met.B.Code.apart c.args.self.now.rows) c.decode_rows.new.grid long c.if-not-decode_rows.ensures
     c.length_of-n2.result c.columns_lawful.result c.length_of-n2.ensures c.columns_lawful.ensures

@@ -1,40 +1,43 @@
 use Rattle.std.proofs.Common.{◌≡◌, ℕ, ◌*◌, ◌≤◌, List, sym, subst, arith}
 use Rattle.algebra.specs.Grids.{grids}
 use Rattle.code.specs.Codes.{Codebook, Apart}
+use Rattle.algebra.specs.Parts.{Ready}
 use Rattle.code.specs.Calls.{Within}
 use Rattle.algebra.proofs.Places.{side1, side2}
 use Rattle.algebra.proofs.Products.{product_apart}
 use Rattle.algebra.proofs.Wholes.{near}
 use Rattle.product.proofs.whole.Product.solve.Goals as goal
 
--- the factors of a small product are small
-rows_small : (a : Codebook) (m : ℕ) → Apart a → a.n * m ≤ 4096 → m ≤ 4096
-rows_small a m p h = side2 a.n m 4096 (omega (arith, p.positive, p.short)) h
+-- the factors of a product that can be read are small
+rows_small : (a b : Codebook) (n k : ℕ) → Apart a → Ready (grids a b) n k → b.n ≤ 4096
+rows_small a b n k p h = side2 a.n b.n 4096 (omega (arith, p.positive, p.short)) (omega (arith, h.long, h.short))
 
-columns_small : (b : Codebook) (m : ℕ) → Apart b → m * b.n ≤ 4096 → m ≤ 4096
-columns_small b m q h = side1 m b.n 4096 (omega (arith, q.positive, q.short)) h
+columns_small : (a b : Codebook) (n k : ℕ) → Apart b → Ready (grids a b) n k → a.n ≤ 4096
+columns_small a b n k q h = side1 a.n b.n 4096 (omega (arith, q.positive, q.short)) (omega (arith, h.long, h.short))
 
 pub length_of-requires : goal.length_of-requires
-length_of-requires g c = rows_small (g.A.Code.codebook c.args.self.now.columns) _ (g.met.A.Code.apart c.args.self.now.columns) c.requires.size.0
+length_of-requires g c =
+    rows_small (g.A.Code.codebook c.args.self.now.columns) (g.B.Code.codebook c.args.self.now.rows) _ _ (g.met.A.Code.apart c.args.self.now.columns) c.requires.ready
 
 pub decode-requires-clause-columns_ready : goal.decode-requires-clause-columns_ready
 decode-requires-clause-columns_ready g c = record {
-  short = columns_small (g.B.Code.codebook c.args.self.now.rows) _ (g.met.B.Code.apart c.args.self.now.rows) c.requires.size.0;
-  room = omega arith;
-  roomy = omega arith;
-  symbols = c.requires.symbols;
+  short = columns_small (g.A.Code.codebook c.args.self.now.columns) (g.B.Code.codebook c.args.self.now.rows) _ _ (g.met.B.Code.apart c.args.self.now.rows) c.requires.ready;
+  room = omega (arith, c.requires.ready.long, c.requires.ready.room);
+  roomy = omega (arith, c.requires.ready.roomy);
+  symbols = c.requires.ready.symbols;
 }
 
 pub decode-requires-clause-rows_ready : goal.decode-requires-clause-rows_ready
 decode-requires-clause-rows_ready g c = record {
-  short = rows_small (g.A.Code.codebook c.args.self.now.columns) _ (g.met.A.Code.apart c.args.self.now.columns) c.requires.size.0;
-  room = omega arith;
-  roomy = omega arith;
-  symbols = omega (arith, c.requires.same, c.requires.symbols);
+  short = rows_small (g.A.Code.codebook c.args.self.now.columns) (g.B.Code.codebook c.args.self.now.rows) _ _ (g.met.A.Code.apart c.args.self.now.columns) c.requires.ready;
+  room = omega (arith, c.requires.ready.long, c.requires.ready.room);
+  roomy = omega (arith, c.requires.ready.roomy);
+  symbols = omega (arith, g.met.A.Code.symbols c.args.self.now.columns, g.met.B.Code.symbols c.args.self.now.rows, c.requires.ready.symbols);
 }
 
 pub distance_of-d2-requires : goal.distance_of-d2-requires
-distance_of-d2-requires g c = rows_small (g.A.Code.codebook c.args.self.now.columns) _ (g.met.A.Code.apart c.args.self.now.columns) c.requires.size.0
+distance_of-d2-requires g c =
+    rows_small (g.A.Code.codebook c.args.self.now.columns) (g.B.Code.codebook c.args.self.now.rows) _ _ (g.met.A.Code.apart c.args.self.now.columns) c.requires.ready
 
 pub returns : goal.returns
 returns g c =
@@ -43,4 +46,4 @@ returns g c =
     let limit : c.distance_of-d1.result * c.distance_of-d2.result ≡ a.d * b.d = cc in
     subst (λ (w : List ℕ). Within (grids a b) c.args.received.now w c.in_ok-counts.counts) (sym c.copy_from_slice.ensures.after)
     (near (grids a b) (product_apart a b (g.met.A.Code.apart c.args.self.now.columns) (g.met.B.Code.apart c.args.self.now.rows)) c.args.received.now c.decode.new.grid c.in_ok-counts.counts
-    c.requires.size.1 c.if-not-decode.ensures c.in_ok-counts.ensures.is.1 c.in_ok-counts.ensures.is.2 (omega (arith, c.if-counts-d1.false, limit)))
+    (sym c.requires.ready.long) c.if-not-decode.ensures c.in_ok-counts.ensures.is.1 c.in_ok-counts.ensures.is.2 (omega (arith, c.if-counts-d1.false, limit)))
