@@ -1,61 +1,60 @@
 // Plates drawn as grids, and verdicts put into words.
+ghost use Rattle.std.specs.Prelude.{◌<◌};
+
 use code::{BLANK, Counts, Refusal};
 use forecast::Forecast;
-use std::io;
+use std::{fmt, io};
 
-// Where a line of cells begins: beside its label, or under the line before.
-fn show_margin(rt: &HostRuntime, label: &str, at: usize, width: usize) -> io::Result<()> {
-    if at == 0 {
-        return print!(rt; "  {label:<9}");
-    }
-    if width > 0 && at % width == 0 {
-        println!(rt; "")?;
-        return print!(rt; "           ");
-    }
-    Ok(())
+// Cells in a row, with a mark before each that is not what was printed.
+#[derive(Clone, Copy)]
+struct Row<'c> {
+    cells: &'c [u16],
+    printed: &'c [u16],
 }
 
-// A cell with a mark before it where it is wrong.
-fn show_cell(rt: &HostRuntime, cell: u16, wrong: bool) -> io::Result<()> {
-    if cell == BLANK {
-        print!(rt; "   _")
-    } else if !wrong {
-        print!(rt; "{cell:>4}")
-    } else if cell < 10 {
-        print!(rt; "  !{cell}")
-    } else {
-        print!(rt; " !{cell}")
+impl fmt::Display for Row<'_> {
+    fn fmt<W: fmt::Write>(&self, f: &mut fmt::Formatter<W>) -> fmt::Result {
+        for (cell, printed) in self.cells.iter().zip(self.printed) {
+            if *cell == BLANK {
+                write!(f, "   _")?;
+            } else if cell == printed {
+                write!(f, "{cell:>4}")?;
+            } else if *cell < 10 {
+                write!(f, "  !{cell}")?;
+            } else {
+                write!(f, " !{cell}")?;
+            }
+        }
+        Ok(())
     }
 }
 
-// Cells in lines of the given width.
-pub(crate) fn show_cells(
+fn print_row(rt: &HostRuntime, label: &str, row: Row<'_>) -> io::Result<()> {
+    println!(rt; "  {label:<9}{row}")
+}
+
+// Cells in one row beside their label.
+pub(crate) fn show_row(rt: &HostRuntime, label: &str, cells: &[u16]) -> io::Result<()> {
+    let printed = cells;
+    print_row(rt, label, Row { cells, printed })
+}
+
+// Cells in rows of the given width, with a mark at each that differs from what was printed.
+pub(crate) fn show_plate(
     rt: &HostRuntime,
     label: &str,
     cells: &[u16],
-    width: usize,
-) -> io::Result<()> {
-    for (at, cell) in cells.iter().enumerate() {
-        show_margin(rt, label, at, width)?;
-        show_cell(rt, *cell, false)?;
-    }
-    println!(rt; "")
-}
-
-// The same, with a mark at each cell that differs from what was printed.
-pub(crate) fn show_spoiled(
-    rt: &HostRuntime,
-    label: &str,
     printed: &[u16],
-    received: &[u16],
     width: usize,
-) -> io::Result<()> {
-    for (at, cells) in printed.iter().zip(received).enumerate() {
-        let (was, is) = cells;
-        show_margin(rt, label, at, width)?;
-        show_cell(rt, *is, *is != *was)?;
+) -> io::Result<()>
+    requires { 0 < width }
+{
+    let rows = cells.chunks(width).zip(printed.chunks(width));
+    for (i, (cells, printed)) in rows.enumerate() {
+        let label = if i == 0 { label } else { "" };
+        print_row(rt, label, Row { cells, printed })?;
     }
-    println!(rt; "")
+    Ok(())
 }
 
 pub(crate) fn show_forecast(
@@ -64,16 +63,14 @@ pub(crate) fn show_forecast(
     d: usize,
     forecast: Forecast,
 ) -> io::Result<()> {
-    let cost = counts.wrong.saturating_mul(2).saturating_add(counts.blank);
-    print!(rt;
-        "  {} wrong and {} blank cost {cost}, and d is {d}: ",
-        counts.wrong, counts.blank
-    )?;
-    match forecast {
-        Forecast::Returns => println!(rt; "it must come back"),
-        Forecast::GetsLost => println!(rt; "it must be lost"),
-        Forecast::Uncertain => println!(rt; "nothing is certain"),
-    }
+    let Counts { wrong, blank } = counts;
+    let cost = counts.cost();
+    let meaning = match forecast {
+        Forecast::Returns => "it must come back",
+        Forecast::GetsLost => "it must be lost",
+        Forecast::Uncertain => "nothing is certain",
+    };
+    println!(rt; "  {wrong} wrong and {blank} blank cost {cost}, and d is {d}: {meaning}")
 }
 
 pub(crate) fn show_counts(rt: &HostRuntime, counts: Counts) -> io::Result<()> {

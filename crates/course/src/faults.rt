@@ -2,28 +2,14 @@
 use code::Refusal;
 use std::alloc::AllocError;
 use std::io;
+use thiserror::Error;
 
-#[derive(Debug, Drop)]
+#[derive(Debug, Drop, Error)]
 pub enum Fault {
-    Refused(Refusal),
-    Memory(AllocError),
-    Output(io::Error),
-}
-
-impl From<Refusal> for Fault {
-    fn from(refusal: Refusal) -> Fault {
-        Fault::Refused(refusal)
-    }
-}
-
-impl From<AllocError> for Fault {
-    fn from(error: AllocError) -> Fault {
-        Fault::Memory(error)
-    }
-}
-
-impl From<io::Error> for Fault {
-    fn from(error: io::Error) -> Fault {
-        Fault::Output(error)
-    }
+    #[error("refused: {}", .0.reason.word())]
+    Refused(#[from] Refusal),
+    #[error(transparent)]
+    Memory(#[from] AllocError),
+    #[error(transparent)]
+    Output(#[from] io::Error),
 }

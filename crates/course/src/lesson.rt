@@ -1,5 +1,7 @@
 // One exercise: a message is printed, spoiled, foretold and read.
-use crate::drawing::{show_cells, show_counts, show_forecast, show_refusal, show_spoiled};
+ghost use Rattle.std.specs.Prelude.{◌<◌};
+
+use crate::drawing::{show_counts, show_forecast, show_plate, show_refusal, show_row};
 use crate::faults::Fault;
 use code::{BLANK, Code, Counts, Refusal, count};
 use forecast::foresee;
@@ -7,8 +9,8 @@ use product::{Product, both_ways};
 use std::alloc::{AllocError, Global};
 
 // A cell that is to hold something else than was printed.
-#[derive(Clone, Copy)]
-pub struct Spoil {
+#[derive(Clone, Copy, PartialEq, Eq, Debug)]
+pub(crate) struct Spoil {
     place: usize,
     cell: u16,
 }
@@ -22,89 +24,78 @@ pub(crate) fn blank(place: usize) -> Spoil {
 }
 
 // The received cells: what was printed, with some cells spoiled.
-fn spoil_cells(printed: &Vec<u16>, spoils: &[Spoil]) -> Result<Vec<u16>, AllocError> {
-    let mut cells = printed.clone()?;
+fn spoil_cells(heap: Global, printed: &[u16], spoils: &[Spoil]) -> Result<Vec<u16>, AllocError> {
+    let mut cells = printed.to_vec(heap)?;
     for spoil in spoils {
-        if spoil.place < cells.len() {
-            cells[spoil.place] = spoil.cell;
+        if let Some(cell) = cells.get_mut(spoil.place) {
+            *cell = spoil.cell;
         }
     }
     Ok(cells)
 }
 
-fn encode_message<C: Code>(heap: Global, code: &C, message: &[u16]) -> Result<Vec<u16>, Fault> {
-    let mut work = vec![in heap; 0u16; code.working_cells()]?;
-    let mut printed = vec![in heap; 0u16; code.length()]?;
-    code.encode(message, &mut printed, &mut work)?;
-    Ok(printed)
+// A code that is taught, and how wide its plates are drawn; a row is a plate of one line.
+#[derive(Drop)]
+pub(crate) struct Lesson<'l, C> {
+    pub(crate) rt: &'l HostRuntime,
+    pub(crate) title: &'l str,
+    pub(crate) code: &'l C,
+    pub(crate) width: usize,
+    ghost wide: { 0 < width },
 }
 
-// Draws the plate as it was printed and as it was received, and says beforehand what must become of it.
-fn show_plate<C: Code>(
-    rt: &HostRuntime,
-    code: &C,
-    printed: &[u16],
-    received: &[u16],
-    width: usize,
-) -> Result<(), Fault> {
-    show_cells(rt, "printed", printed, width)?;
-    show_spoiled(rt, "received", printed, received, width)?;
-    let counts = count(received, printed)?;
-    let forecast = foresee(code, printed, received)?;
-    show_forecast(rt, counts, code.distance(), forecast)?;
-    Ok(())
-}
-
-fn show_word<C: Code>(
-    rt: &HostRuntime,
-    code: &C,
-    word: &[u16],
-    counts: Counts,
-    width: usize,
-) -> Result<(), Fault> {
-    let mut message = vec![in rt.alloc(); 0u16; code.message_length()]?;
-    code.take_out(word, &mut message)?;
-    show_cells(rt, "read as", word, width)?;
-    show_counts(rt, counts)?;
-    show_cells(rt, "message", &message, message.len())?;
-    Ok(())
-}
-
-fn show_verdict<C: Code>(
-    rt: &HostRuntime,
-    code: &C,
-    word: &[u16],
-    verdict: Result<Counts, Refusal>,
-    width: usize,
-) -> Result<(), Fault> {
-    match verdict {
-        Ok(counts) => show_word(rt, code, word, counts, width)?,
-        Err(refusal) => show_refusal(rt, refusal)?,
+impl<C: Code> Lesson<'_, C> {
+    fn encode(&self, message: &[u16]) -> Result<Vec<u16>, Fault> {
+        let heap = self.rt.alloc();
+        let mut work = vec![in heap; 0u16; self.code.working_cells()]?;
+        let mut printed = vec![in heap; 0u16; self.code.length()]?;
+        self.code.encode(message, &mut printed, &mut work)?;
+        Ok(printed)
     }
-    Ok(())
-}
 
-// An exercise with plates of the given width; a row is a plate of one line.
-pub(crate) fn exercise<C: Code>(
-    rt: &HostRuntime,
-    title: &str,
-    code: &C,
-    width: usize,
-    message: &[u16],
-    spoils: &[Spoil],
-) -> Result<(), Fault> {
-    let (n, k, d) = (code.length(), code.message_length(), code.distance());
-    println!(rt; "{title}: n = {n}, k = {k}, d = {d}")?;
-    show_cells(rt, "message", message, message.len())?;
-    let printed = encode_message(rt.alloc(), code, message)?;
-    let received = spoil_cells(&printed, spoils)?;
-    show_plate(rt, code, &printed, &received, width)?;
-    let mut word = vec![in rt.alloc(); 0u16; n]?;
-    let mut work = vec![in rt.alloc(); 0u16; code.working_cells()]?;
-    let verdict = code.read(&received, &mut word, &mut work);
-    show_verdict(rt, code, &word, verdict, width)?;
-    println!(rt; "")?;
-    Ok(())
+    // Prints a message, spoils the plate, and says beforehand what must become of it. The cells are as they were received.
+    fn send(&self, message: &[u16], spoils: &[Spoil]) -> Result<Vec<u16>, Fault> {
+        show_row(self.rt, "message", message)?;
+        let printed = self.encode(message)?;
+        let received = spoil_cells(self.rt.alloc(), &printed, spoils)?;
+        show_plate(self.rt, "printed", &printed, &printed, self.width)?;
+        show_plate(self.rt, "received", &received, &printed, self.width)?;
+        let counts = count(&received, &printed)?;
+        let forecast = foresee(self.code, &printed, &received)?;
+        show_forecast(self.rt, counts, self.code.distance(), forecast)?;
+        Ok(received)
+    }
+
+    fn show_word(&self, word: &[u16], counts: Counts) -> Result<(), Fault> {
+        let mut message = vec![in self.rt.alloc(); 0u16; self.code.message_length()]?;
+        self.code.take_out(word, &mut message)?;
+        show_plate(self.rt, "read as", word, word, self.width)?;
+        show_counts(self.rt, counts)?;
+        Ok(show_row(self.rt, "message", &message)?)
+    }
+
+    fn show_verdict(&self, word: &[u16], verdict: Result<Counts, Refusal>) -> Result<(), Fault> {
+        match verdict {
+            Ok(counts) => self.show_word(word, counts),
+            Err(refusal) => Ok(show_refusal(self.rt, refusal)?),
+        }
+    }
+
+    pub(crate) fn exercise(&self, message: &[u16], spoils: &[Spoil]) -> Result<(), Fault> {
+        let (n, k, d) = (
+            self.code.length(),
+            self.code.message_length(),
+            self.code.distance(),
+        );
+        println!(self.rt; "{}: n = {n}, k = {k}, d = {d}", self.title)?;
+        let received = self.send(message, spoils)?;
+        let heap = self.rt.alloc();
+        let mut word = vec![in heap; 0u16; n]?;
+        let mut work = vec![in heap; 0u16; self.code.working_cells()]?;
+        let verdict = self.code.read(&received, &mut word, &mut work);
+        self.show_verdict(&word, verdict)?;
+        Ok(println!(self.rt; "")?)
+    }
 }
 
 // An exercise with plates of three codes, read in both bracketings.
@@ -113,28 +104,26 @@ pub(crate) fn exercise_both_ways<
     B: Code<Symbols = A::Symbols>,
     C: Code<Symbols = A::Symbols>,
 >(
-    rt: &HostRuntime,
-    title: &str,
-    left: &Product<Product<A, B>, C>,
-    right: &Product<A, Product<B, C>>,
-    width: usize,
+    left: &Lesson<'_, Product<Product<A, B>, C>>,
+    right: &Lesson<'_, Product<A, Product<B, C>>>,
     message: &[u16],
     spoils: &[Spoil],
 ) -> Result<(), Fault> {
-    let (n, d) = (left.length(), left.distance());
-    let (w, v) = (left.working_cells(), right.working_cells());
-    println!(rt; "{title}: n = {n}, d = {d}, working cells {w} and {v}")?;
-    show_cells(rt, "message", message, message.len())?;
-    let printed = encode_message(rt.alloc(), left, message)?;
-    let received = spoil_cells(&printed, spoils)?;
-    show_plate(rt, left, &printed, &received, width)?;
+    let rt = left.rt;
+    let (n, d) = (left.code.length(), left.code.distance());
+    let (w, v) = (left.code.working_cells(), right.code.working_cells());
+    println!(rt;
+        "{}: n = {n}, d = {d}, working cells {w} and {v}",
+        left.title
+    )?;
+    let received = left.send(message, spoils)?;
     let mut first = vec![in rt.alloc(); 0u16; n]?;
     let mut second = vec![in rt.alloc(); 0u16; n]?;
     let mut work = vec![in rt.alloc(); 0u16; w]?;
     let mut spare = vec![in rt.alloc(); 0u16; v]?;
-    let verdicts = both_ways(
-        left,
-        right,
+    let (one, two) = both_ways(
+        left.code,
+        right.code,
         &received,
         &mut first,
         &mut second,
@@ -142,9 +131,8 @@ pub(crate) fn exercise_both_ways<
         &mut spare,
     );
     println!(rt; "  the first two taken together:")?;
-    show_verdict(rt, left, &first, verdicts.0, width)?;
+    left.show_verdict(&first, one)?;
     println!(rt; "  the last two taken together:")?;
-    show_verdict(rt, right, &second, verdicts.1, width)?;
-    println!(rt; "")?;
-    Ok(())
+    right.show_verdict(&second, two)?;
+    Ok(println!(rt; "")?)
 }
