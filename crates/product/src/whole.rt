@@ -88,7 +88,7 @@ impl<A: Code, B: Code<Symbols = A::Symbols>> Code for Product<A, B> {
         let n = self.length();
         let working = self.working_cells();
         check_read(n, working, received, answer, work)?;
-        let verdict = self.attempt(received, answer, &mut work[0..working]);
+        let verdict = self.attempt(received, answer, &mut work[..working]);
         zero_front(work, working);
         verdict
     }
@@ -97,7 +97,7 @@ impl<A: Code, B: Code<Symbols = A::Symbols>> Code for Product<A, B> {
         let n = self.length();
         let w = self.working_cells();
         check_lawful(n, w, cells, work)?;
-        let verdict = self.judge(cells, &mut work[0..w]);
+        let verdict = self.judge(cells, &mut work[..w]);
         zero_front(work, w);
         verdict
     }
@@ -107,7 +107,7 @@ impl<A: Code, B: Code<Symbols = A::Symbols>> Code for Product<A, B> {
         let k = self.message_length();
         let w = self.working_cells();
         check_encode(n, k, w, message, answer, work)?;
-        let verdict = self.print(message, answer, &mut work[0..w]);
+        let verdict = self.print(message, answer, &mut work[..w]);
         zero_front(work, w);
         verdict
     }

@@ -1,9 +1,9 @@
-use Rattle.std.proofs.Common.{◌≡◌, ℕ, List, length, refl, ◌∙◌, mul-le-mul, arith, rules}
+use Rattle.std.proofs.Common.{◌≡◌, ℕ, List, length, ◌∙◌, mul-le-mul, arith, rules}
 use Rattle.std.proofs.lemmas.Grind.{common_steps}
 use Rattle.algebra.specs.Grids.{grids, laid}
 use Rattle.code.proofs.Checks.{encodes-sized}
-use Rattle.algebra.proofs.Places.{wiped_part, part_long}
-use Rattle.algebra.proofs.Sizes.{within_limits, gate_encode, room_of}
+use Rattle.algebra.proofs.Places.{wiped}
+use Rattle.algebra.proofs.Sizes.{gate_encode, worked}
 use Rattle.product.proofs.whole.ProductCode.encode.Goals as goal
 
 pub returns-in_err-check_encode : goal.returns-in_err-check_encode
@@ -27,10 +27,8 @@ returns g c =
     let k : List ℕ = c.args.work.now in
     let n : ℕ = c.length-n.result in
     let w : ℕ = c.working_cells-w.result in
-    let fit = c.in_ok-check_encode.ensures.passed in
     let is = c.in_ok-check_encode.ensures.is in
-    let limits = within_limits n w m c.message_length-k.result a n (length k) w is in
-    let wide : w ≡ s.working = omega (arith, limits.1, room_of s w c.working_cells-w.ensures (omega (arith, limits.0, c.length-n.ensures))) in
+    let wide : w ≡ s.working = worked s n w m c.message_length-k.result a n (length k) w c.length-n.ensures c.working_cells-w.ensures is in
     encodes-sized (is ∙ gate_encode s n w m c.message_length-k.result l.k a (length k) c.length-n.ensures c.working_cells-w.ensures c.message_length-k.ensures few)
-    (wiped_part w s.working k c.print-verdict.new.work c.zero_front.new.cells wide (c.print-verdict.auto.work ∙ part_long w w k refl fit.2) fit.2 c.zero_front.ensures)
+    (wiped w s.working k c.print-verdict.new.work _ wide c.in_ok-check_encode.ensures.passed.2 c.print-verdict.auto.work c.zero_front.ensures)
     c.print-verdict.ensures
