@@ -1,5 +1,5 @@
 -- Of a grid whose columns were read and whose rows were decoded, only the decoded grid can be within reach. Assumes nothing.
-use Rattle.std.proofs.Common.{◌≡◌, ℕ, ◌+◌, ◌*◌, ◌<◌, ◌≤◌, Bool, true, false, List, length, get_or, sym, refl, ap, subst, inl, inr, arith}
+use Rattle.std.proofs.Common.{◌≡◌, ℕ, ◌+◌, ◌*◌, ◌<◌, ◌≤◌, Bool, true, false, List, length, get_or, sym, refl, subst, inl, inr, arith}
 use Rattle.std.proofs.lemmas.Bool.{cases_lt}
 use Rattle.code.specs.declared.cells.Counts.{Counts}
 use Rattle.code.specs.Cells.{blank, cost, wrongs, blanks}
@@ -100,13 +100,6 @@ module _ (a b : Codebook) (p : Apart a) (small : a.q ≤ blank) (same : a.q ≡ 
         (λ f. h.1 (subst (λ (k : ℕ). (j : ℕ) → j < k → a.Word (column a.n k y j)) (sym e2) f))
 
 -- ---- the one word that can be within reach
-pub too_far : (s : Codebook) (r y : List ℕ) → Candidate s r y true → s.d ≤ cost r y → Beyond s r
-too_far s r y h far v w =
-    elim (cases_lt (cost r v) s.d) [
-      | inl l ↦ absurd (omega (arith, far, l, ap (cost r) (h.1 v w l)))
-      | inr k ↦ k
-    ]
-
 pub near : (s : Codebook) (p : Apart s) (r y : List ℕ) (c : Counts) → length r ≡ s.n → Candidate s r y true → c.wrong ≡ wrongs r y → c.blank ≡ blanks r
     → 2 * c.wrong + c.blank < s.d → Within s r y c
 near s p r y c e h wrong-is blank-is cheap = within s p r e y c h.0 wrong-is blank-is cheap
