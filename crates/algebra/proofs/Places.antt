@@ -120,9 +120,6 @@ side2 n m k p h = omega (arith, mul-le-mul_right m p)
 pub wiped_part : (w W : ℕ) (xs ys zs : List ℕ) → w ≡ W → length ys ≡ w → w ≤ length xs → zs ≡ zeroed w (ys ++ drop (w - 0) xs) → zs ≡ zeroed W xs
 wiped_part w W xs ys zs p q h e = e ∙ zeroed-over w ys xs q h ∙ ap (λ (x : ℕ). zeroed x xs) p
 
-pub part_long : (m n : ℕ) (xs : List ℕ) → m ≡ n → n ≤ length xs → length (take (m - 0) xs) ≡ n
-part_long m n xs e h = simp length-take (omega arith)
-
 -- ---- rows taken one after the other
 -- line is row i of the grid w, and rest what stands after it
 pub record Next (n i : ℕ) (w line rest : List ℕ) : Type 0 where

@@ -1,5 +1,5 @@
 -- What the read of a line gives, and what a try of a row tells by it. Assumes nothing.
-use Rattle.std.proofs.Common.{◌≡◌, ℕ, ◌+◌, ◌*◌, true, false, ltb, List, length, get_or, Option, Some, None, Ok, Err, Result, sym, subst, arith}
+use Rattle.std.proofs.Common.{◌≡◌, ℕ, ◌+◌, ◌*◌, ◌≤◌, true, false, ltb, List, length, get_or, Option, Some, None, Ok, Err, Result, sym, subst, arith}
 use Rattle.std.specs.Option.{is_some}
 use Rattle.std.specs.Result.{result_ok}
 use Rattle.std.proofs.lemmas.Bool.{false≢true}
@@ -34,5 +34,5 @@ tried_unread s d n t ws x line word (Some c) z f w i = absurd (false≢true (sym
 tried_unread s d n t ws x line word None z f w i = tried_none s d n t ws x line z f w
 
 -- the working cells that are left of what is lent
-pub ready_of : (s : Codebook) (m k l : ℕ) → m ≡ s.n → l ≡ k + (s.n + s.n) → Roomy s l → Ready s m k
+pub ready_of : (s : Codebook) (m k l : ℕ) → m ≡ s.n → l ≤ k + (s.n + s.n) → Roomy s l → Ready s m k
 ready_of s m k l e f h = record { long = sym e; short = omega (arith, e, h.short); room = omega (arith, f, h.room); roomy = h.roomy; symbols = h.symbols }

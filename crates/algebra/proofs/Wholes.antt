@@ -1,5 +1,5 @@
 -- Of a grid whose columns were read and whose rows were decoded, only the decoded grid can be within reach. Assumes nothing.
-use Rattle.std.proofs.Common.{◌≡◌, ℕ, ◌+◌, ◌*◌, ◌<◌, ◌≤◌, Bool, true, false, List, length, get_or, sym, refl, ap, subst, inl, inr, arith}
+use Rattle.std.proofs.Common.{◌≡◌, ℕ, ◌+◌, ◌*◌, ◌<◌, ◌≤◌, Bool, true, false, List, length, get_or, sym, refl, subst, inl, inr, arith}
 use Rattle.std.proofs.lemmas.Bool.{cases_lt}
 use Rattle.code.specs.declared.cells.Counts.{Counts}
 use Rattle.code.specs.Cells.{blank, cost, wrongs, blanks}
@@ -86,27 +86,20 @@ module _ (a b : Codebook) (p : Apart a) (small : a.q ≤ blank) (same : a.q ≡ 
     pub symbols : Symbols a.q y
     symbols = rows_symbols a b p small r x ws e found q y long rows same
 
-    pub candidate : (n2 : ℕ) (t : Bool) → n2 ≡ b.n → Says t ((j : ℕ) → j < n2 → a.Word (column n1 n2 y j)) → Candidate (grids a b) r y t
+    pub candidate : (n2 : ℕ) (t : Bool) → n2 ≡ b.n → Says t ((j : ℕ) → j < n2 → a.Word (column a.n n2 y j)) → Candidate (grids a b) r y t
     candidate n2 true e2 h = (
       record {
         sized = long;
-        columns = moved (λ n k l. (j : ℕ) → j < k → a.Word (column n k y j)) e1 e2 ed (h.0 tt);
+        columns = subst (λ (k : ℕ). (j : ℕ) → j < k → a.Word (column a.n k y j)) e2 (h.0 tt);
         rows = λ i l. (rows i l).word;
       },
       only a b p small r x ws e found q y long rows,
     )
     candidate n2 false e2 h =
         beyond_column a b p small r x ws e found q y long rows
-        (λ f. h.1 (moved (λ n k l. (j : ℕ) → j < k → a.Word (column n k y j)) (sym e1) (sym e2) (sym ed) f))
+        (λ f. h.1 (subst (λ (k : ℕ). (j : ℕ) → j < k → a.Word (column a.n k y j)) (sym e2) f))
 
 -- ---- the one word that can be within reach
-pub too_far : (s : Codebook) (r y : List ℕ) → Candidate s r y true → s.d ≤ cost r y → Beyond s r
-too_far s r y h far v w =
-    elim (cases_lt (cost r v) s.d) [
-      | inl l ↦ absurd (omega (arith, far, l, ap (cost r) (h.1 v w l)))
-      | inr k ↦ k
-    ]
-
 pub near : (s : Codebook) (p : Apart s) (r y : List ℕ) (c : Counts) → length r ≡ s.n → Candidate s r y true → c.wrong ≡ wrongs r y → c.blank ≡ blanks r
     → 2 * c.wrong + c.blank < s.d → Within s r y c
 near s p r y c e h wrong-is blank-is cheap = within s p r e y c h.0 wrong-is blank-is cheap

@@ -42,11 +42,8 @@ impl<A: Code, B: Code<Symbols = A::Symbols>> Product<A, B> {
         requires symbols { Symbols (⟦<Product<A, B> as Code>⟧.codebook self.now).q cells.now }
         ensures { Says result ((⟦<Product<A, B> as Code>⟧.codebook self.now).Word cells.now) }
     {
-        let n1 = length_of(&self.columns);
         let n2 = length_of(&self.rows);
-        let (line, rest) = work.split_at_mut(n1);
-        columns_lawful(&self.columns, cells, n1, n2, line, rest)
-            && rows_lawful(&self.rows, cells, n2, rest)
+        columns_lawful(&self.columns, cells, n2, work) && rows_lawful(&self.rows, cells, n2, work)
     }
 
     // Checks the cells, and judges.

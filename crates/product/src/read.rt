@@ -282,21 +282,15 @@ fn column_lawful<C: Code>(
 }
 
 // Whether each column of the grid is a word.
-pub(crate) fn columns_lawful<C: Code>(
-    code: &C,
-    grid: &[u16],
-    n1: usize,
-    n2: usize,
-    line: &mut [u16],
-    rest: &mut [u16],
-) -> bool
-    requires ready { Ready (C.Code.codebook code.now) n1 (length rest.old) }
-    requires fits { (length grid.now ≡ n1 * n2) × (length grid.now ≤ 4096) × (n1 ≤ length line.old) }
+pub(crate) fn columns_lawful<C: Code>(code: &C, grid: &[u16], n2: usize, lines: &mut [u16]) -> bool
+    requires ready { Roomy (C.Code.codebook code.now) (length lines.old) }
+    requires fits { (length grid.now ≡ (C.Code.codebook code.now).n * n2) × (length grid.now ≤ 4096) }
     requires symbols { Symbols (C.Code.codebook code.now).q grid.now }
-    ensures { Says result ((j : ℕ) → j < n2 → (C.Code.codebook code.now).Word (column n1 n2 grid.now j)) }
+    ensures { Says result ((j : ℕ) → j < n2 → (C.Code.codebook code.now).Word (column (C.Code.codebook code.now).n n2 grid.now j)) }
 {
+    let (line, rest) = lines.split_at_mut(length_of(code));
     for j in 0..n2 {
-        if !column_lawful(code, grid, n2, j, &mut line[0..n1], rest) {
+        if !column_lawful(code, grid, n2, j, line, rest) {
             return false;
         }
     }
@@ -329,11 +323,7 @@ impl<A: Code, B: Code<Symbols = A::Symbols>> Product<A, B> {
             code: &self.rows,
             weights,
         };
-        if !decoder.decode_rows(grid, n1, lines) {
-            return false;
-        }
-        let (line, rest) = lines.split_at_mut(n1);
-        columns_lawful(&self.columns, grid, n1, n2, line, rest)
+        decoder.decode_rows(grid, n1, lines) && columns_lawful(&self.columns, grid, n2, lines)
     }
 
     // Cuts the working cells, decodes, and takes the grid where it costs less than the distance.
