@@ -1,6 +1,7 @@
 // Calls of a code, each compared whole: the answer or the refusal, and what every lent cell holds afterwards.
-use code::{Code, Reason, Refusal};
+use code::{Code, Counts, Reason, Refusal};
 use std::alloc::Global;
+use std::fmt::Debug;
 use std::process::Abort;
 use std::test::Fail;
 
@@ -10,208 +11,169 @@ const OLD: u16 = 777;
 // Working cells beyond those that a code asks for, which every call leaves alone.
 const SPARE: usize = 2;
 
-fn is_all(cells: &[u16], value: u16) -> bool {
-    for cell in cells {
-        if *cell != value {
-            return false;
+// A code on trial, with what its calls need.
+#[derive(Drop)]
+pub(crate) struct Trial<'t, R, C> {
+    rt: &'t R,
+    heap: Global,
+    code: C,
+}
+
+impl<'t, R: Abort, C: Code> Trial<'t, R, C> {
+    pub(crate) fn new(rt: &'t R, heap: Global, code: C) -> Trial<'t, R, C> {
+        Trial { rt, heap, code }
+    }
+
+    // n, k, d and the number of working cells
+    pub(crate) fn has_numbers(&self, numbers: [usize; 4]) {
+        let answered = [
+            self.code.length(),
+            self.code.message_length(),
+            self.code.distance(),
+            self.code.working_cells(),
+        ];
+        assert_eq!(self.rt; answered, numbers);
+    }
+
+    // Message symbols, each with its place.
+    pub(crate) fn has_places(&self, places: &[(usize, Option<usize>)]) {
+        for (i, place) in places {
+            assert_eq!(self.rt; self.code.message_place(*i), *place, "symbol {i}");
         }
     }
-    true
-}
 
-pub(crate) fn same_cells(rt: &impl Abort, a: &[u16], b: &[u16]) {
-    assert_eq!(rt; a.len(), b.len());
-    for (x, y) in a.iter().zip(b) {
-        assert_eq!(rt; *x, *y);
+    // Enough working cells for a call, and some to spare.
+    fn desk(&self) -> usize {
+        self.code.working_cells().saturating_add(SPARE)
     }
-}
 
-pub(crate) fn same_refusal(
-    rt: &impl Abort,
-    refusal: Refusal,
-    reason: Reason,
-    place: usize,
-) -> Result<(), Fail> {
-    assert_eq!(rt; refusal.reason.number(), reason.number());
-    assert_eq!(rt; refusal.place, place);
-    Ok(())
-}
+    // The working cells after a call that cleared so many: zero in front, and as they were behind.
+    fn check_work(&self, work: &[u16], cleared: usize) {
+        let (front, rest) = work.split_at(cleared.min(work.len()));
+        assert!(self.rt; front.iter().all(|cell| *cell == 0));
+        assert!(self.rt; rest.iter().all(|cell| *cell == OLD));
+    }
 
-// The working cells after a call: as they were where a size was refused, and else zero in front.
-fn check_work(rt: &impl Abort, work: &[u16], asked: usize, sized: bool) {
-    let front = if sized { asked.min(work.len()) } else { 0 };
-    assert!(rt; is_all(&work[0..front], 0));
-    assert!(rt; is_all(&work[front..], OLD));
-}
+    // A call that writes the word in the answer cells.
+    fn accepts<
+        T: PartialEq + Debug + Drop,
+        F: FnOnce(&mut [u16], &mut [u16]) -> Result<T, Refusal>,
+    >(&self, desk: usize, found: T, word: &[u16], call: F) -> Result<(), Fail>
+        requires { F.IsAlwaysCallable call }
+    {
+        let mut answer = vec![in self.heap; OLD; word.len()]?;
+        let mut work = vec![in self.heap; OLD; desk]?;
+        assert_eq!(self.rt; call(&mut answer, &mut work), Ok(found));
+        assert_eq!(self.rt; answer.as_slice(), word);
+        self.check_work(&work, self.code.working_cells());
+        Ok(())
+    }
 
-fn is_size(reason: Reason) -> bool {
-    reason.number() <= 4
-}
+    // A call with so many answer and working cells, which is refused and leaves the answer cells as they were. One that is refused for a size leaves the working cells too.
+    fn refuses<
+        T: PartialEq + Debug + Drop,
+        F: FnOnce(&mut [u16], &mut [u16]) -> Result<T, Refusal>,
+    >(&self, lent: (usize, usize), refusal: Refusal, call: F) -> Result<(), Fail>
+        requires { F.IsAlwaysCallable call }
+    {
+        let (tray, desk) = lent;
+        let mut answer = vec![in self.heap; OLD; tray]?;
+        let mut work = vec![in self.heap; OLD; desk]?;
+        assert_eq!(self.rt; call(&mut answer, &mut work), Err(refusal));
+        assert!(self.rt; answer.iter().all(|cell| *cell == OLD));
+        let cleared = if refusal.reason <= Reason::Cramped {
+            0
+        } else {
+            self.code.working_cells()
+        };
+        self.check_work(&work, cleared);
+        Ok(())
+    }
 
-pub(crate) fn reads_as<C: Code>(
-    rt: &impl Abort,
-    heap: Global,
-    code: &C,
-    received: &[u16],
-    word: &[u16],
-    wrong: usize,
-    blank: usize,
-) -> Result<(), Fail> {
-    let asked = code.working_cells();
-    let mut answer = vec![in heap; OLD; received.len()]?;
-    let mut work = vec![in heap; OLD; asked.saturating_add(SPARE)]?;
-    let Ok(counts) = code.read(received, &mut answer, &mut work) else {
-        return Err(Fail::new("a read was refused"));
-    };
-    assert_eq!(rt; counts.wrong, wrong);
-    assert_eq!(rt; counts.blank, blank);
-    same_cells(rt, &answer, word);
-    check_work(rt, &work, asked, true);
-    Ok(())
-}
+    pub(crate) fn reads_as(
+        &self,
+        received: &[u16],
+        word: &[u16],
+        counts: Counts,
+    ) -> Result<(), Fail> {
+        self.accepts(
+            self.desk(),
+            counts,
+            word,
+            |answer, work| self.code.read(received, answer, work),
+        )
+    }
 
-// A read with so many answer and working cells is refused.
-pub(crate) fn read_fails<C: Code>(
-    rt: &impl Abort,
-    heap: Global,
-    code: &C,
-    received: &[u16],
-    lent: (usize, usize),
-    reason: Reason,
-    place: usize,
-) -> Result<(), Fail> {
-    let (tray, desk) = lent;
-    let mut answer = vec![in heap; OLD; tray]?;
-    let mut work = vec![in heap; OLD; desk]?;
-    let Err(refusal) = code.read(received, &mut answer, &mut work) else {
-        return Err(Fail::new("a read was accepted"));
-    };
-    same_refusal(rt, refusal, reason, place)?;
-    assert!(rt; is_all(&answer, OLD));
-    check_work(rt, &work, code.working_cells(), !is_size(reason));
-    Ok(())
-}
+    pub(crate) fn read_fails(
+        &self,
+        received: &[u16],
+        lent: (usize, usize),
+        refusal: Refusal,
+    ) -> Result<(), Fail> {
+        self.refuses(
+            lent,
+            refusal,
+            |answer, work| self.code.read(received, answer, work),
+        )
+    }
 
-pub(crate) fn is_lawful<C: Code>(
-    rt: &impl Abort,
-    heap: Global,
-    code: &C,
-    cells: &[u16],
-    lawful: bool,
-) -> Result<(), Fail> {
-    let asked = code.working_cells();
-    let mut work = vec![in heap; OLD; asked.saturating_add(SPARE)]?;
-    let Ok(answer) = code.lawful(cells, &mut work) else {
-        return Err(Fail::new("a lawful was refused"));
-    };
-    assert_eq!(rt; answer, lawful);
-    check_work(rt, &work, asked, true);
-    Ok(())
-}
+    pub(crate) fn is_lawful(&self, cells: &[u16], lawful: bool) -> Result<(), Fail> {
+        self.accepts(
+            self.desk(),
+            lawful,
+            &[],
+            |_, work| self.code.lawful(cells, work),
+        )
+    }
 
-pub(crate) fn lawful_fails<C: Code>(
-    rt: &impl Abort,
-    heap: Global,
-    code: &C,
-    cells: &[u16],
-    desk: usize,
-    reason: Reason,
-    place: usize,
-) -> Result<(), Fail> {
-    let mut work = vec![in heap; OLD; desk]?;
-    let Err(refusal) = code.lawful(cells, &mut work) else {
-        return Err(Fail::new("a lawful was answered"));
-    };
-    same_refusal(rt, refusal, reason, place)?;
-    check_work(rt, &work, code.working_cells(), !is_size(reason));
-    Ok(())
-}
+    pub(crate) fn lawful_fails(
+        &self,
+        cells: &[u16],
+        desk: usize,
+        refusal: Refusal,
+    ) -> Result<(), Fail> {
+        self.refuses((0, desk), refusal, |_, work| self.code.lawful(cells, work))
+    }
 
-// A message is encoded as a word, which is lawful and gives the message back.
-pub(crate) fn encodes_as<C: Code>(
-    rt: &impl Abort,
-    heap: Global,
-    code: &C,
-    message: &[u16],
-    word: &[u16],
-) -> Result<(), Fail> {
-    let asked = code.working_cells();
-    let mut answer = vec![in heap; OLD; word.len()]?;
-    let mut work = vec![in heap; OLD; asked.saturating_add(SPARE)]?;
-    let Ok(()) = code.encode(message, &mut answer, &mut work) else {
-        return Err(Fail::new("an encode was refused"));
-    };
-    same_cells(rt, &answer, word);
-    check_work(rt, &work, asked, true);
-    takes_out(rt, heap, code, word, message)?;
-    is_lawful(rt, heap, code, word, true)
-}
+    // A message is encoded as a word, which is lawful and gives the message back.
+    pub(crate) fn encodes_as(&self, message: &[u16], word: &[u16]) -> Result<(), Fail> {
+        self.accepts(
+            self.desk(),
+            (),
+            word,
+            |answer, work| self.code.encode(message, answer, work),
+        )?;
+        self.takes_out(word, message)?;
+        self.is_lawful(word, true)
+    }
 
-pub(crate) fn encode_fails<C: Code>(
-    rt: &impl Abort,
-    heap: Global,
-    code: &C,
-    message: &[u16],
-    lent: (usize, usize),
-    reason: Reason,
-    place: usize,
-) -> Result<(), Fail> {
-    let (tray, desk) = lent;
-    let mut answer = vec![in heap; OLD; tray]?;
-    let mut work = vec![in heap; OLD; desk]?;
-    let Err(refusal) = code.encode(message, &mut answer, &mut work) else {
-        return Err(Fail::new("an encode was accepted"));
-    };
-    same_refusal(rt, refusal, reason, place)?;
-    assert!(rt; is_all(&answer, OLD));
-    check_work(rt, &work, code.working_cells(), !is_size(reason));
-    Ok(())
-}
+    pub(crate) fn encode_fails(
+        &self,
+        message: &[u16],
+        lent: (usize, usize),
+        refusal: Refusal,
+    ) -> Result<(), Fail> {
+        self.refuses(
+            lent,
+            refusal,
+            |answer, work| self.code.encode(message, answer, work),
+        )
+    }
 
-pub(crate) fn takes_out<C: Code>(
-    rt: &impl Abort,
-    heap: Global,
-    code: &C,
-    word: &[u16],
-    message: &[u16],
-) -> Result<(), Fail> {
-    let mut answer = vec![in heap; OLD; message.len()]?;
-    let Ok(()) = code.take_out(word, &mut answer) else {
-        return Err(Fail::new("a take-out was refused"));
-    };
-    same_cells(rt, &answer, message);
-    Ok(())
-}
+    fn takes_out(&self, word: &[u16], message: &[u16]) -> Result<(), Fail> {
+        self.accepts(0, (), message, |answer, _| self.code.take_out(word, answer))
+    }
 
-pub(crate) fn take_out_fails<C: Code>(
-    rt: &impl Abort,
-    heap: Global,
-    code: &C,
-    word: &[u16],
-    tray: usize,
-    reason: Reason,
-    place: usize,
-) -> Result<(), Fail> {
-    let mut answer = vec![in heap; OLD; tray]?;
-    let Err(refusal) = code.take_out(word, &mut answer) else {
-        return Err(Fail::new("a take-out was accepted"));
-    };
-    same_refusal(rt, refusal, reason, place)?;
-    assert!(rt; is_all(&answer, OLD));
-    Ok(())
-}
-
-// n, k, d and the number of working cells
-pub(crate) fn has_numbers<C: Code>(
-    rt: &impl Abort,
-    code: &C,
-    n: usize,
-    k: usize,
-    d: usize,
-    working: usize,
-) {
-    assert_eq!(rt; code.length(), n);
-    assert_eq!(rt; code.message_length(), k);
-    assert_eq!(rt; code.distance(), d);
-    assert_eq!(rt; code.working_cells(), working);
+    pub(crate) fn take_out_fails(
+        &self,
+        word: &[u16],
+        tray: usize,
+        refusal: Refusal,
+    ) -> Result<(), Fail> {
+        self.refuses(
+            (tray, 0),
+            refusal,
+            |answer, _| self.code.take_out(word, answer),
+        )
+    }
 }

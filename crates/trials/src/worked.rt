@@ -1,7 +1,7 @@
 // Worked examples of the alphabets, and of rows that come back or are lost.
-use crate::calls::{encodes_as, has_numbers, read_fails, reads_as};
+use crate::calls::Trial;
 use alphabet::{Alphabet, Bits, Digits, Sixteen};
-use code::{BLANK, Reason};
+use code::{BLANK, Counts, Reason, Refusal};
 use repetition::Repetition;
 use std::test::Fail;
 use sum::Sum;
@@ -9,122 +9,75 @@ use table::Table;
 
 #[test]
 fn symbols(rt: HostRuntime) {
-    assert_eq!(rt; <Sixteen as Alphabet>::multiply(9, 9), 13);
-    assert_eq!(rt; <Sixteen as Alphabet>::multiply(7, 11), 4);
-    assert_eq!(rt; <Sixteen as Alphabet>::multiply(8, 2), 3);
-    assert_eq!(rt; <Sixteen as Alphabet>::add(9, 13), 4);
-    assert_eq!(rt; <Digits as Alphabet>::add(7, 8), 5);
-    assert_eq!(rt; <Digits as Alphabet>::multiply(4, 5), 0);
-    assert_eq!(rt; <Digits as Alphabet>::negate(3), 7);
-    assert_eq!(rt; <Bits as Alphabet>::add(1, 1), 0);
+    assert_eq!(rt; Sixteen::multiply(9, 9), 13);
+    assert_eq!(rt; Sixteen::multiply(7, 11), 4);
+    assert_eq!(rt; Sixteen::multiply(8, 2), 3);
+    assert_eq!(rt; Sixteen::add(9, 13), 4);
+    assert_eq!(rt; Digits::add(7, 8), 5);
+    assert_eq!(rt; Digits::multiply(4, 5), 0);
+    assert_eq!(rt; Digits::negate(3), 7);
+    assert_eq!(rt; Bits::add(1, 1), 0);
 }
 
 #[test]
 fn numbers_at_and_above_q_count_as_their_remainders(rt: HostRuntime) {
-    assert_eq!(rt; <Digits as Alphabet>::add(17, 65535), 2);
-    assert_eq!(rt; <Digits as Alphabet>::negate(10), 0);
-    assert_eq!(rt; <Sixteen as Alphabet>::multiply(25, 9), 13);
-    assert_eq!(rt; <Bits as Alphabet>::multiply(65535, 3), 1);
+    assert_eq!(rt; Digits::add(17, 65535), 2);
+    assert_eq!(rt; Digits::negate(10), 0);
+    assert_eq!(rt; Sixteen::multiply(25, 9), 13);
+    assert_eq!(rt; Bits::multiply(65535, 3), 1);
 }
 
 #[test]
 fn repeated_rows(rt: HostRuntime) -> Result<(), Fail> {
-    let heap = rt.alloc();
-    let Ok(three) = Repetition::<Digits>::new(3) else {
-        return Err(Fail::new("Repetition 3"));
-    };
-    reads_as(&rt, heap, &three, &[4, 4, 7], &[4, 4, 4], 1, 0)?;
-    reads_as(&rt, heap, &three, &[4, BLANK, BLANK], &[4, 4, 4], 0, 2)?;
-    reads_as(&rt, heap, &three, &[0, 9, 0], &[0, 0, 0], 1, 0)?;
-    read_fails(&rt, heap, &three, &[4, 7, BLANK], (3, 0), Reason::Lost, 0)?;
-    read_fails(
-        &rt,
-        heap,
-        &three,
-        &[BLANK, BLANK, BLANK],
-        (3, 1),
-        Reason::Lost,
-        0,
+    let three = Trial::new(&rt, rt.alloc(), Repetition::<Digits>::new(3)?);
+    three.reads_as(&[4, 4, 7], &[4, 4, 4], Counts { wrong: 1, blank: 0 })?;
+    three.reads_as(
+        &[4, BLANK, BLANK],
+        &[4, 4, 4],
+        Counts { wrong: 0, blank: 2 },
     )?;
-    read_fails(&rt, heap, &three, &[1, 2, 3], (3, 0), Reason::Lost, 0)?;
-    encodes_as(&rt, heap, &three, &[4], &[4, 4, 4])?;
-    let Ok(one) = Repetition::<Bits>::new(1) else {
-        return Err(Fail::new("Repetition 1"));
-    };
-    reads_as(&rt, heap, &one, &[1], &[1], 0, 0)?;
-    read_fails(&rt, heap, &one, &[BLANK], (1, 0), Reason::Lost, 0)
+    three.reads_as(&[0, 9, 0], &[0, 0, 0], Counts { wrong: 1, blank: 0 })?;
+    three.read_fails(&[4, 7, BLANK], (3, 0), Reason::Lost.at(0))?;
+    three.read_fails(&[BLANK, BLANK, BLANK], (3, 1), Reason::Lost.at(0))?;
+    three.read_fails(&[1, 2, 3], (3, 0), Reason::Lost.at(0))?;
+    three.encodes_as(&[4], &[4, 4, 4])?;
+    let one = Trial::new(&rt, rt.alloc(), Repetition::<Bits>::new(1)?);
+    one.reads_as(&[1], &[1], Counts { wrong: 0, blank: 0 })?;
+    one.read_fails(&[BLANK], (1, 0), Reason::Lost.at(0))
 }
 
 #[test]
 fn balanced_rows(rt: HostRuntime) -> Result<(), Fail> {
-    let heap = rt.alloc();
-    let Ok(five) = Sum::<Digits>::new(5) else {
-        return Err(Fail::new("Sum 5"));
-    };
-    reads_as(
-        &rt,
-        heap,
-        &five,
-        &[1, 2, BLANK, 4, 0],
-        &[1, 2, 3, 4, 0],
-        0,
-        1,
-    )?;
-    reads_as(
-        &rt,
-        heap,
-        &five,
-        &[1, 2, 3, 4, BLANK],
-        &[1, 2, 3, 4, 0],
-        0,
-        1,
-    )?;
-    reads_as(&rt, heap, &five, &[1, 2, 3, 4, 0], &[1, 2, 3, 4, 0], 0, 0)?;
-    read_fails(&rt, heap, &five, &[1, 2, 3, 4, 1], (5, 0), Reason::Lost, 0)?;
-    read_fails(
-        &rt,
-        heap,
-        &five,
-        &[1, BLANK, BLANK, 4, 0],
-        (5, 3),
-        Reason::Lost,
-        0,
-    )?;
-    encodes_as(&rt, heap, &five, &[1, 2, 3, 4], &[1, 2, 3, 4, 0])?;
-    let Ok(four) = Sum::<Sixteen>::new(4) else {
-        return Err(Fail::new("Sum 4"));
-    };
-    encodes_as(&rt, heap, &four, &[9, 13, 7], &[9, 13, 7, 3])?;
-    reads_as(&rt, heap, &four, &[BLANK, 13, 7, 3], &[9, 13, 7, 3], 0, 1)
+    let five = Trial::new(&rt, rt.alloc(), Sum::<Digits>::new(5)?);
+    let word = [1, 2, 3, 4, 0];
+    five.reads_as(&[1, 2, BLANK, 4, 0], &word, Counts { wrong: 0, blank: 1 })?;
+    five.reads_as(&[1, 2, 3, 4, BLANK], &word, Counts { wrong: 0, blank: 1 })?;
+    five.reads_as(&word, &word, Counts { wrong: 0, blank: 0 })?;
+    five.read_fails(&[1, 2, 3, 4, 1], (5, 0), Reason::Lost.at(0))?;
+    five.read_fails(&[1, BLANK, BLANK, 4, 0], (5, 3), Reason::Lost.at(0))?;
+    five.encodes_as(&[1, 2, 3, 4], &word)?;
+    let four = Trial::new(&rt, rt.alloc(), Sum::<Sixteen>::new(4)?);
+    let word = [9, 13, 7, 3];
+    four.encodes_as(&[9, 13, 7], &word)?;
+    four.reads_as(&[BLANK, 13, 7, 3], &word, Counts { wrong: 0, blank: 1 })
+}
+
+// The binary code of length 7 that carries 4 symbols.
+pub(crate) fn seven_four() -> Result<Table<Bits>, Refusal> {
+    let mut table = Table::EMPTY;
+    table.fill(4, 3, &[1, 0, 1, 1, 1, 1, 1, 1, 0, 0, 1, 1])?;
+    Ok(table)
 }
 
 #[test]
 fn table_rows(rt: HostRuntime) -> Result<(), Fail> {
-    let heap = rt.alloc();
-    let mut code = Table::<Bits>::EMPTY;
-    let Ok(()) = code.fill(4, 3, &[1, 0, 1, 1, 1, 1, 1, 1, 0, 0, 1, 1]) else {
-        return Err(Fail::new("the table was refused"));
-    };
-    has_numbers(&rt, &code, 7, 4, 3, 7);
+    let code = Trial::new(&rt, rt.alloc(), seven_four()?);
+    code.has_numbers([7, 4, 3, 7]);
     let word = [1, 0, 1, 1, 0, 0, 0];
-    encodes_as(&rt, heap, &code, &[1, 0, 1, 1], &word)?;
-    reads_as(
-        &rt,
-        heap,
-        &code,
-        &[BLANK, BLANK, 1, 1, 0, 0, 0],
-        &word,
-        0,
-        2,
-    )?;
-    reads_as(&rt, heap, &code, &[1, 0, 1, 1, 0, 1, 0], &word, 1, 0)?;
-    read_fails(
-        &rt,
-        heap,
-        &code,
-        &[BLANK, 0, 1, 1, 0, 0, 1],
-        (7, 7),
-        Reason::Lost,
-        0,
-    )
+    code.encodes_as(&[1, 0, 1, 1], &word)?;
+    let blotted = [BLANK, BLANK, 1, 1, 0, 0, 0];
+    code.reads_as(&blotted, &word, Counts { wrong: 0, blank: 2 })?;
+    let misread = [1, 0, 1, 1, 0, 1, 0];
+    code.reads_as(&misread, &word, Counts { wrong: 1, blank: 0 })?;
+    code.read_fails(&[BLANK, 0, 1, 1, 0, 0, 1], (7, 7), Reason::Lost.at(0))
 }
