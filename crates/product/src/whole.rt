@@ -11,8 +11,8 @@ use code::{
 };
 
 // Columns are words of the first code and rows words of the second.
-#[derive(Drop)]
-pub struct Product<A, B> {
+#[derive(Clone, Copy, PartialEq, Eq, Debug, Drop)]
+pub struct Product<A: Code, B: Code<Symbols = A::Symbols>> {
     pub columns: A,
     pub rows: B,
 }
