@@ -88,7 +88,7 @@ fn correct_column<C: Code>(
     match read_line(code, line, word, rest) {
         Some(found) => {
             put_column(word, n2, j, grid);
-            2 * found.wrong + found.blank
+            found.cost()
         }
         None => distance_of(code),
     }
@@ -346,7 +346,7 @@ impl<A: Code, B: Code<Symbols = A::Symbols>> Product<A, B> {
         let counts = count(received, grid)?;
         let d1 = distance_of(&self.columns);
         let d2 = distance_of(&self.rows);
-        if 2 * counts.wrong + counts.blank >= d1 * d2 {
+        if counts.cost() >= d1 * d2 {
             return Err(Reason::Lost.at(0));
         }
         answer.copy_from_slice(grid);

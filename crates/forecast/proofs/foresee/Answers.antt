@@ -1,4 +1,4 @@
-use Rattle.std.proofs.Common.{◌≡◌, ℕ, ◌+◌, ◌*◌, List, length, arith}
+use Rattle.std.proofs.Common.{◌≡◌, ℕ, List, length, arith}
 use Rattle.code.specs.Cells.{cost}
 use Rattle.forecast.specs.Forecasts.{forecast}
 use Rattle.forecast.proofs.Foretelling.{foretold}

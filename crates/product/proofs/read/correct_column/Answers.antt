@@ -1,4 +1,4 @@
-use Rattle.std.proofs.Common.{◌≡◌, ℕ, List, length, sym, refl, ◌∙◌, arith}
+use Rattle.std.proofs.Common.{◌≡◌, ℕ, ◌+◌, ◌*◌, ◌≤◌, List, length, sym, refl, ◌∙◌, arith}
 use Rattle.algebra.specs.Grids.{column}
 use Rattle.algebra.proofs.Lines.{column-taken, column-found, found_word, found_none}
 use Rattle.product.proofs.read.correct_column.Goals as goal
@@ -29,9 +29,11 @@ returns-in-Some g c =
     let word : List ℕ = c.read_line.new.word in
     let told = c.in-Some.ensures in
     let m : length word ≡ n = c.read_line.auto.word ∙ c.requires.lines in
+    let low : 2 * c.in-Some.found.wrong + c.in-Some.found.blank ≤ 4096 = omega (arith, told.reach, told.wrong, told.blank, p.short, c.requires.ready.long, c.requires.ready.short) in
+    let is : c.cost.result ≡ 2 * c.in-Some.found.wrong + c.in-Some.found.blank = omega (arith, c.cost.ensures, low) in
     record {
-      found = column-found s n (length word) c.args.n2 c.args.j _ c.args.received.now c.put_column.new.grid line word
-          c.take_column.ensures c.put_column.ensures.here m (found_word s line word c.in-Some.found told);
-      low = omega (arith, told.reach, told.wrong, told.blank, p.short, c.requires.ready.long, c.requires.ready.short);
+      found = rw is (column-found s n (length word) c.args.n2 c.args.j _ c.args.received.now c.put_column.new.grid line word
+          c.take_column.ensures c.put_column.ensures.here m (found_word s line word c.in-Some.found told));
+      low = omega (arith, is, low);
       others = λ k l ne. rw (sym m) (c.put_column.ensures.others k l ne);
     }

@@ -46,4 +46,4 @@ returns g c =
     let limit : c.distance_of-d1.result * c.distance_of-d2.result ≡ a.d * b.d = cc in
     subst (λ (w : List ℕ). Within (grids a b) c.args.received.now w c.in_ok-counts.counts) (sym c.copy_from_slice.ensures.after)
     (near (grids a b) (product_apart a b (g.met.A.Code.apart c.args.self.now.columns) (g.met.B.Code.apart c.args.self.now.rows)) c.args.received.now c.decode.new.grid c.in_ok-counts.counts
-    (sym c.requires.ready.long) c.if-not-decode.ensures c.in_ok-counts.ensures.is.1 c.in_ok-counts.ensures.is.2 (omega (arith, c.if-counts-d1.false, limit)))
+    (sym c.requires.ready.long) c.if-not-decode.ensures c.in_ok-counts.ensures.is.1 c.in_ok-counts.ensures.is.2 (omega (arith, c.if-cost-d1.false, c.cost.ensures, c.in_ok-counts.ensures.few, c.requires.ready.long, c.requires.ready.short, limit)))
