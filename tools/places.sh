@@ -249,7 +249,7 @@ duplicates --repo "$d" --most 200 --seconds 120 | grep '^D'
 
 # answer files
 point_8f() {
-find crates/{alphabet,code,trivial,repetition,sum,table,product,sheet,lines,job,forecast}/proofs -name Answers.antt
+find crates -path "*/proofs/*" -name Answers.antt -not -path "*/out/*"
 }
 
 if [ $# -eq 1 ]; then

@@ -13,7 +13,7 @@ use alphabet::Alphabet;
 use code::{Code, Content, Refusal, check_cells};
 
 // Whether a line is a word.
-fn line_lawful<C: Code>(code: &C, cells: &[u16], rest: &mut [u16]) -> bool
+pub(crate) fn line_lawful<C: Code>(code: &C, cells: &[u16], rest: &mut [u16]) -> bool
     requires ready { Ready (C.Code.codebook code.now) (length cells.now) (length rest.old) }
     requires symbols { Symbols (C.Code.codebook code.now).q cells.now }
     ensures { Says result ((C.Code.codebook code.now).Word cells.now) }

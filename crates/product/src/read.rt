@@ -9,6 +9,7 @@ ghost use Rattle.algebra.specs.Weights.{cut, heavy, heft, Found};
 ghost use Rattle.algebra.specs.Parts.{Ready, Taken, Symbols, Weighed, Fresh, Tried, Renewed, Decoded, RowsDecoded, Says};
 ghost use Rattle.algebra.specs.Readings.{Reached, RowReady, Roomy, ColumnsFound, Candidate};
 
+use crate::judge::line_lawful;
 use crate::whole::Product;
 use alphabet::Alphabet;
 use code::{BLANK, Code, Content, Counts, Reason, Refusal, check_cells, count};
@@ -278,7 +279,7 @@ fn column_lawful<C: Code>(
     ensures { Says result ((C.Code.codebook code.now).Word (column (length line.old) n2 grid.now j)) }
 {
     take_column(grid, n2, j, line);
-    code.lawful(line, rest).unwrap_or(false)
+    line_lawful(code, line, rest)
 }
 
 // Whether each column of the grid is a word.

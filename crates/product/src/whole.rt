@@ -1,5 +1,6 @@
 // The product of two codes is a code.
-ghost use Rattle.std.specs.Prelude.{◌≡◌};
+ghost use Rattle.std.specs.Prelude.{◌≡◌, ◌*◌, ◌≤◌};
+ghost use Rattle.code.specs.Calls.{answered};
 ghost use Rattle.algebra.specs.Grids.{grids, laid};
 ghost use Rattle.algebra.proofs.Products.{product_apart};
 ghost use Rattle.algebra.proofs.Encoded.{product_linear};
@@ -27,6 +28,14 @@ impl<A: Code, B: Code<Symbols = A::Symbols>> Product<A, B> {
     }
 }
 
+// The product of two numbers as a code answers them, answered so too.
+fn answer_product(x: usize, y: usize) -> usize
+    requires { (x ≤ 4097) × (y ≤ 4097) }
+    ensures { result ≡ answered (x * y) }
+{
+    (x * y).min(MAX_LENGTH + 1)
+}
+
 impl<A: Code, B: Code<Symbols = A::Symbols>> Code for Product<A, B> {
     type Symbols = A::Symbols;
 
@@ -45,21 +54,15 @@ impl<A: Code, B: Code<Symbols = A::Symbols>> Code for Product<A, B> {
     ghost symbols = { Prim.search rules };
 
     fn length(&self) -> usize {
-        let n1 = self.columns.length();
-        let n2 = self.rows.length();
-        (n1 * n2).min(MAX_LENGTH + 1)
+        answer_product(self.columns.length(), self.rows.length())
     }
 
     fn message_length(&self) -> usize {
-        let k1 = self.columns.message_length();
-        let k2 = self.rows.message_length();
-        (k1 * k2).min(MAX_LENGTH + 1)
+        answer_product(self.columns.message_length(), self.rows.message_length())
     }
 
     fn distance(&self) -> usize {
-        let d1 = self.columns.distance();
-        let d2 = self.rows.distance();
-        (d1 * d2).min(MAX_LENGTH + 1)
+        answer_product(self.columns.distance(), self.rows.distance())
     }
 
     fn working_cells(&self) -> usize {
