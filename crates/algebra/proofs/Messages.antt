@@ -1,22 +1,18 @@
 -- What a word carries tells it: taking out and encoding undo one another, and a word is what its message symbols make of the words that carry one symbol each. Assumes nothing.
-use Rattle.std.proofs.Common.{◌≡◌, ℕ, zero, suc, ◌<◌, cond, eqb, ◌≢◌, List, length, get_or, sym, ap, ◌∙◌, subst, ap₂, arith}
+use Rattle.std.proofs.Common.{◌≡◌, ℕ, zero, suc, ◌<◌, cond, eqb, ◌≢◌, List, get_or, sym, ap, ◌∙◌, subst, ap₂, arith}
 use Rattle.std.proofs.lemmas.Bool.{cond-true, cond-false, eq-eqb, ne_eqb}
 use Rattle.std.proofs.lemmas.Bool.Decides.{nat_tests}
 use Rattle.code.specs.Cells.{listed}
 use Rattle.alphabet.specs.Rings.{Ring}
 use Rattle.code.specs.Codes.{Codebook, Layout, Apart, Linear, Message, Carries, taken}
 use Rattle.alphabet.specs.Sums.{added}
-use Rattle.code.proofs.Rows.{length-listed, get_or-listed, listed_same, is_listed, constant_listed}
+use Rattle.code.proofs.Rows.{length-listed, get_or-listed, listed_same, constant_listed}
 use Rattle.alphabet.proofs.Symbols.{one_in, mul-zero}
 use Rattle.alphabet.proofs.Additions.{added-one}
 
 -- ---- there and back
 pub carries_taken : (l : Layout) (w : List ℕ) → Carries l (taken l w) w
 carries_taken l w i h = sym (get_or-listed l.k (λ i. get_or w (l.place i) 0) i h)
-
--- taking out what was encoded gives the message
-pub taken_encoded : (l : Layout) (m w : List ℕ) → length m ≡ l.k → Carries l m w → taken l w ≡ m
-taken_encoded l m w e c = sym (is_listed l.k (λ i. get_or w (l.place i) 0) m e (λ i h. sym (c i h)))
 
 module _ (s : Codebook) (l : Layout) (add mul : ℕ → ℕ → ℕ) (a : Apart s) (p : Linear s l add mul) where
   pub taken_message : (w : List ℕ) → s.Word w → Message s.q l.k (taken l w)

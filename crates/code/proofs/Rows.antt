@@ -6,6 +6,7 @@ use Rattle.std.proofs.lemmas.List.{drop_at, drop_all, append-nil, ext_get_or, ge
 use Rattle.std.proofs.lemmas.Bool.{cases_eq, cases_lt}
 use Rattle.std.proofs.lemmas.List.FromFn.{length-map-range_with_len, get_or-map-range_with_len, fill_by_all}
 use Rattle.code.specs.Cells.{listed, zeroed}
+use Rattle.code.specs.Codes.{Layout, Carries, taken}
 
 pub filled : (n v : ℕ) (xs : List ℕ) → n ≡ length xs → replicate n v ++ drop n xs ≡ replicate (length xs) v
 filled n v xs e =
@@ -114,3 +115,7 @@ zeroed-over n xs w e h =
     zeroed-front n (xs ++ drop (n - 0) w) room
     ∙ ap (λ ys. replicate n 0 ++ ys) (drop_at xs (drop (n - 0) w) n e ∙ ap (λ j. drop j w) z)
     ∙ sym (zeroed-front n w h)
+
+-- taking out what was encoded gives the message
+pub taken_encoded : (l : Layout) (m w : List ℕ) → length m ≡ l.k → Carries l m w → taken l w ≡ m
+taken_encoded l m w sized carries = sym (is_listed l.k (λ i. get_or w (l.place i) 0) m sized (λ i h. sym (carries i h)))

@@ -80,6 +80,6 @@ abbrev pub clean : (ℕ → Bool) → List ℕ → Verdict
 clean test xs = cond (nat_lt (prefix_len test xs) (length xs)) (Err (refusal Smudge (prefix_len test xs))) (Ok tt)
 
 -- one check, and where it passes the next
-abbrev pub then : Verdict → Verdict → Verdict
+abbrev pub then : {E : Type 0} → Result (Unit {0}) E → Result (Unit {0}) E → Result (Unit {0}) E
 then (Ok u) v = v
 then (Err e) v = Err e

@@ -1,21 +1,17 @@
 -- A word that costs less than the distance comes back from every read, and one at the distance from none. Assumes nothing.
-use Rattle.std.proofs.Common.{◌≡◌, ℕ, ◌<◌, List, length, get_or, Ok, Err, Result, sym, ap, ◌∙◌, subst, ap₂, inl, inr, arith}
+use Rattle.std.proofs.Common.{◌≡◌, ℕ, ◌<◌, List, length, Ok, Err, Result, sym, ap, ◌∙◌, subst, ap₂, inl, inr, arith}
 use Rattle.std.proofs.lemmas.Bool.{cases_eq, cases_lt, eq-eqb, ne_eqb, lt-ltb, le-ltb}
 use Rattle.code.specs.declared.cells.Counts.{Counts}
 use Rattle.code.specs.declared.refusals.Reason.TheVariants.{Lost}
 use Rattle.code.specs.declared.refusals.Refusal.{Refusal}
 use Rattle.code.specs.Cells.{wrongs, cost}
-use Rattle.code.specs.Codes.{Codebook, Layout, Apart, Carries, taken}
+use Rattle.code.specs.Codes.{Codebook, Layout, Apart, taken}
 use Rattle.code.specs.Refusals.{Verdict, refusal}
 use Rattle.code.specs.Calls.{found, reads, read_checks, Reads}
 use Rattle.code.proofs.Costs.{at_reach}
-use Rattle.code.proofs.Rows.{equal_or_not, is_listed}
+use Rattle.code.proofs.Rows.{equal_or_not, taken_encoded}
 use Rattle.forecast.specs.declared.Forecast.TheVariants.{Returns, GetsLost}
 use Rattle.forecast.specs.Forecasts.{forecast, Returned, Foretells}
-
--- what stands at the message places of a word is the message that it carries
-pub restored : (l : Layout) (m w : List ℕ) → length m ≡ l.k → Carries l m w → taken l w ≡ m
-restored l m w sized carries = sym (is_listed l.k (λ i. get_or w (l.place i) 0) m sized (λ i h. sym (carries i h)))
 
 module _ (b : Codebook) (apart : Apart b) (l : Layout) (w r : List ℕ) (word : b.Word w) (sized : length r ≡ b.n) where
   judged : (a a' k k' : List ℕ) (res : Result Counts Refusal) → read_checks b r a k ≡ Ok tt → Reads b r a a' k k' res → found b r a a' res
@@ -31,7 +27,7 @@ module _ (b : Codebook) (apart : Apart b) (l : Layout) (w r : List ℕ) (word : 
       record {
         word = same;
         counts = ap₂ mk (h.wrong ∙ ap (wrongs r) same) h.blank;
-        message = λ m e carries. ap (taken l) same ∙ restored l m w e carries;
+        message = λ m e carries. ap (taken l) same ∙ taken_encoded l m w e carries;
       }
   returned a a' (Err e) cheap h = absurd (omega (arith, h.1 w word))
 

@@ -46,7 +46,7 @@ fn is_repeatable(n: usize) -> bool
     ensures is { result ≡ repeatable n }
     ensures limits { T result → (1 ≤ n) × (n ≤ 64) }
 {
-    1 <= n && n <= MAX_REPEATS
+    (1..=MAX_REPEATS).contains(&n)
 }
 
 impl<S: Alphabet> Repetition<S> {

@@ -109,11 +109,6 @@ runs (Ok u) book q n ss xs ys os os' a a' k k' =
 
 -- ---- the whole of a sheet's work, from its opening on
 
--- one check, and where it passes the next
-abbrev pub then : Verdict → Verdict → Verdict
-then (Ok u) v = v
-then (Err f) v = Err f
-
 -- the sheet is opened over the cells xs for q symbols and n places, and the steps leave ys
 abbrev pub works : Verdict → {C : Type 0} → (C → Codebook) → (q n : ℕ) → List (Step C) → (xs ys : List ℕ) → (os os' : List Outcome) → (a a' k k' : List ℕ) → Type 0
 works (Err f) book q n ss xs ys os os' a a' k k' = (ys ≡ xs) × (os' ≡ os) × (a' ≡ a) × (k' ≡ k)

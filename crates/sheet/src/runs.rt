@@ -1,7 +1,8 @@
 // Runs: whole lists of calls on one sheet, each read judging the marks that stand when its turn comes.
 ghost use Rattle.std.specs.Prelude.{◌≡◌, length, OnOk};
 ghost use Rattle.sheet.specs.Marks.{Marked, OneRowStands};
-ghost use Rattle.sheet.specs.Runs.{opening, Goes, noting, runs, works, then};
+ghost use Rattle.code.specs.Refusals.{then};
+ghost use Rattle.sheet.specs.Runs.{opening, Goes, noting, runs, works};
 ghost use Rattle.sheet.specs.Sheets.{symbols, places, all_cells, marks, Same, Becomes};
 
 use crate::calls::{Call, Outcome, Step};

@@ -47,7 +47,7 @@ fn is_summable(n: usize) -> bool
     ensures is { result ≡ summable n }
     ensures limits { T result → (2 ≤ n) × (n ≤ 64) }
 {
-    2 <= n && n <= MAX_SUMMANDS
+    (2..=MAX_SUMMANDS).contains(&n)
 }
 
 impl<S: Alphabet> Sum<S> {
