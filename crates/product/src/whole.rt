@@ -13,9 +13,9 @@ use code::{
 
 // Columns are words of the first code and rows words of the second.
 #[derive(Clone, Copy, PartialEq, Eq, Debug, Drop)]
-pub struct Product<A: Code, B: Code<Symbols = A::Symbols>> {
-    pub columns: A,
-    pub rows: B,
+pub struct Product<A, B> {
+    pub(crate) columns: A,
+    pub(crate) rows: B,
 }
 
 impl<A: Code, B: Code<Symbols = A::Symbols>> Product<A, B> {
