@@ -102,8 +102,8 @@ module _ (s : Generator) {neg : ℕ → ℕ} (r : Ring s.q s.add neg s.mul) wher
         (ap (λ z. s.mul z (coefficient s i j) % s.q) (mod-eq_of_lt few) ∙ mod-eq_of_lt (r.mul_closed c (coefficient s i j) few (coefficient_low s r i j)))
         ∙ check_changed (λ p. get_or e p 0) (λ p. get_or word p 0) i c j (λ p b. tabled.symbols p (omega arith)) inside few (sum_is_lem ∙ sym here) others
 
-    pub changed_tabled : Tabled s word
-    changed_tabled = record {
+    pub added_tabled : Tabled s word
+    added_tabled = record {
       sized = sized;
       symbols = λ p l. elim (cases_lt p s.k) [
         | inl b ↦ front_low p b
@@ -114,10 +114,23 @@ module _ (s : Generator) {neg : ℕ → ℕ} (r : Ring s.q s.add neg s.mul) wher
       checks = checked;
     }
 
-  -- the same in the words of the turns: what the message holds once the row has been added to all check symbols
-  module _ (e word : List ℕ) (i v c : ℕ) (tabled : Tabled s e) (inside : i < s.k) (h : Changing s (set e i v) word i c s.m) where
+  -- the same in the words of the turns: the row has been added to all check symbols
+  module _ (e word : List ℕ) (i v c : ℕ) (tabled : Tabled s e) (inside : i < s.k) (low : v < s.q) (few : c < s.q)
+      (sum_is_lem : s.add (get_or e i 0) c ≡ v) (sized : length word ≡ s.k + s.m) (h : Changing s (set e i v) word i c s.m) where
     pub changed_here : get_or word i 0 ≡ v
     changed_here = h.front i inside ∙ get_or-set_same e i v 0 (omega (arith, tabled.sized))
 
     pub changed_others : (j : ℕ) → j < s.k → j ≢ i → get_or word j 0 ≡ get_or e j 0
     changed_others j l ne = h.front j l ∙ get_or-set_other e i j v 0 ne
+
+    behind : (j : ℕ) → get_or (set e i v) (s.k + j) 0 ≡ get_or e (s.k + j) 0
+    behind j = get_or-set_other e i (s.k + j) v 0 (λ z. omega arith)
+
+    pub changed_tabled : Tabled s word
+    changed_tabled =
+        added_tabled e word i v c tabled inside low few sum_is_lem sized h.front (λ p l.
+        let below : get_or (set e i v) (s.k + p) 0 < s.q = rw (behind p) (tabled.symbols (s.k + p) (omega arith)) in
+        h.done p l
+        ∙ ap₂ s.add
+        (sym (mod-eq_of_lt below))
+        (sym (mod-eq_of_lt (r.mul_closed c (coefficient s i p) few (coefficient_low s r i p))) ∙ ap (λ z. s.mul z (coefficient s i p) % s.q) (sym (mod-eq_of_lt few))))
