@@ -1,6 +1,7 @@
 -- Where message symbol i of a product lies: the place is there exactly where both factors have theirs. Assumes nothing.
-use Rattle.std.proofs.Common.{◌≡◌, ℕ, ◌+◌, ◌*◌, ◌/◌, ◌%◌, ◌<◌, ◌≤◌, cond, ltb, ◌≢◌, Some, None, Option, sym, refl, ap, ◌∙◌, inl, inr, arith}
+use Rattle.std.proofs.Common.{◌≡◌, ℕ, ◌+◌, ◌*◌, ◌/◌, ◌%◌, ◌<◌, ◌≤◌, cond, ltb, ◌≢◌, Some, None, Option, sym, refl, ap, ◌∙◌, inl, inr, mod-lt, arith}
 use lib.Arith.{digits_lt}
+use Rattle.std.proofs.lemmas.Nat.{div-add-mod'}
 use Rattle.std.proofs.lemmas.Bool.{cases_lt, cond_above, cond_below}
 use Rattle.code.specs.Codes.{Codebook, Layout}
 use Rattle.code.specs.Calls.{answered_place}
@@ -38,7 +39,25 @@ module _ (a b : Codebook) (la lb : Layout) (i m n : ℕ) (m-is : m ≡ lb.k) (n-
       ] in
       cond_above i (la.k * lb.k) _ None None past refl
 
+  pub present_along : ◌≡◌ {A = Option ℕ} None (answered_place b lb (i % m)) → ⊥
+  present_along e =
+      let pos : 0 < m = omega arith in
+      omega (arith, told_none b lb (i % m) wide e, mod-lt i pos, m-is)
+
   module _ (u v : ℕ) (up : Some u ≡ answered_place a la (i / m)) (along : Some v ≡ answered_place b lb (i % m)) where
+    place_is : u * n + v ≡ la.place (i / lb.k) * b.n + lb.place (i % lb.k)
+    place_is =
+        let eu : u ≡ la.place (i / lb.k) = (told_some a la (i / m) tall u up).1 ∙ ap (λ (x : ℕ). la.place (i / x)) m-is in
+        let ev : v ≡ lb.place (i % lb.k) = (told_some b lb (i % m) wide v along).1 ∙ ap (λ (x : ℕ). lb.place (i % x)) m-is in
+        cc
+
+    pub present : Some (u * n + v) ≡ combined
+    present =
+        let hu : i / m < la.k = (told_some a la (i / m) tall u up).0 in
+        let hv : i % m < m = omega (arith, (told_some b lb (i % m) wide v along).0, m-is) in
+        let inside : i < la.k * lb.k = omega (arith, digits_lt hu hv, div-add-mod' i m, ap (λ (x : ℕ). la.k * x) m-is) in
+        ap (λ (x : ℕ). Some x) place_is ∙ cond_below i (la.k * lb.k) _ None inside
+
     pub place_below : ((j : ℕ) → j < la.k → la.place j < a.n) → ((j : ℕ) → j < lb.k → lb.place j < b.n) → u * n + v < a.n * b.n
     place_below inside1 inside2 =
         let tu = told_some a la (i / m) tall u up in

@@ -8,7 +8,7 @@ use Rattle.code.specs.declared.cells.Content.{Content}
 use Rattle.code.specs.declared.cells.Content.TheVariants.{Word, Received}
 use Rattle.code.specs.declared.cells.Counts.{Counts}
 use Rattle.code.specs.declared.refusals.Refusal.{Refusal}
-use Rattle.code.specs.Cells.{good, blank, cost}
+use Rattle.code.specs.Cells.{good, blank, cost, listed}
 use Rattle.code.specs.Codes.{Codebook, Layout, Apart, Carries}
 use Rattle.algebra.specs.Grids.{row, column, grids}
 use Rattle.code.specs.Refusals.{clean, then}
@@ -79,11 +79,19 @@ encode_passes s l m a a' k k' res ready e low h =
 pub ready_at : (s : Codebook) (n m l k : ℕ) → m ≡ n → k ≡ l → Ready s n l → Ready s m k
 ready_at s n m l k p q h = record { long = h.long ∙ sym p; short = omega (arith, h.short); room = omega (arith, h.room); roomy = h.roomy; symbols = h.symbols }
 
+pub good_symbols : (q p : ℕ) (r : List ℕ) → p ≡ q → ((i : ℕ) → i < length r → good Word p (get_or r i 0) ≡ true) → Symbols q r
+good_symbols q p r e h i l = omega (arith, ltb-true (get_or r i 0) p (h i l), e)
+
 pub row_symbols : (q n i : ℕ) (w part : List ℕ) → i * n + n ≤ length w → part ≡ row n w i → Symbols q w → Symbols q part
 row_symbols q n i w part fits f h =
     subst (λ (x : List ℕ). Symbols q x) (sym f) (λ j k.
     let j' : j < n = omega (arith, length-listed n (λ j. get_or w (i * n + j) 0), k) in
     omega (arith, row_at n w i j j', h (i * n + j) (omega (arith, fits, j'))))
+
+pub listed_symbols : (q n : ℕ) (f : ℕ → ℕ) (line : List ℕ) → line ≡ listed n f → ((i : ℕ) → i < n → f i < q) → Symbols q line
+listed_symbols q n f line e h =
+    subst (λ (x : List ℕ). Symbols q x) (sym e) (λ i k.
+    let i' : i < n = omega (arith, length-listed n f, k) in omega (arith, get_or-listed n f i i', h i i'))
 
 -- ---- a column
 pub column-taken : (q n n2 : ℕ) (r line : List ℕ) (j : ℕ) → j < n2 → length r ≡ n * n2 → line ≡ column n n2 r j → Taken q r → Taken q line

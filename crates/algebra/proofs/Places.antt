@@ -1,5 +1,5 @@
 -- Places of a grid, and what one write more leaves of its rows and columns. Assumes nothing.
-use Rattle.std.proofs.Common.{◌≡◌, ℕ, suc, ◌+◌, ◌-◌, ◌*◌, ◌<◌, ◌≤◌, ◌≢◌, List, ◌++◌, length, get_or, take, drop, set, sym, ap, ◌∙◌, subst, inl, inr, mul-le-mul_right, suc-mul, mul-le-mul_left, arith, length-drop, length-take, get_or-set_other, get_or-set_same, ext_get_or, below_more}
+use Rattle.std.proofs.Common.{◌≡◌, ℕ, suc, ◌+◌, ◌-◌, ◌*◌, ◌<◌, ◌≤◌, ◌≢◌, List, ◌++◌, length, get_or, take, drop, set, sym, ap, ◌∙◌, subst, inl, inr, mul-le-mul_right, suc-mul, mul-le-mul_left, arith, length-drop, length-take, get_or-set_other, get_or-set_same, ext_get_or, below_more, min, zero-mul}
 use lib.Arith.{digits_lt}
 use borrow.Rule.Slice.PartMut.{put_mid}
 use Rattle.std.proofs.lemmas.Bool.{cases_lt, cases_order}
@@ -116,9 +116,33 @@ side1 n m k p h = omega (arith, mul-le-mul_left n p)
 pub side2 : (n m k : ℕ) → 1 ≤ n → n * m ≤ k → m ≤ k
 side2 n m k p h = omega (arith, mul-le-mul_right m p)
 
+-- a capped product is the cap of the product
+pub cap_mul : (m n k : ℕ) → 1 ≤ m → 1 ≤ n → 1 ≤ k → min (min m k * min n k) k ≡ min (m * n) k
+cap_mul m n k p q o =
+    elim (cases_lt m k) [
+      | inl a ↦ elim (cases_lt n k) [
+        | inl b ↦ (let x : min m k ≡ m = omega arith in let y : min n k ≡ n = omega arith in rw (x, y))
+        | inr b ↦ (let x : min m k ≡ m = omega arith in let y : min n k ≡ k = omega arith in rw (x, y) (omega (arith, mul-le-mul_right n p, mul-le-mul_right k p)))
+      ]
+      | inr a ↦ (let x : min m k ≡ k = omega arith in let z : 1 ≤ min n k = omega arith in rw x (omega (arith, mul-le-mul_left k z, mul-le-mul_left m q)))
+    ]
+
+pub cap_mul_any : (m n k : ℕ) → 1 ≤ k → min (min m k * min n k) k ≡ min (m * n) k
+cap_mul_any m n k o =
+    elim (cases_lt 0 m) [
+      | inl p ↦ elim (cases_lt 0 n) [
+        | inl q ↦ cap_mul m n k p q o
+        | inr q ↦ let z : n ≡ 0 = omega arith in let y : min n k ≡ 0 = omega arith in rw y (omega (arith, ap (λ x. m * x) z))
+      ]
+      | inr p ↦ let z : m ≡ 0 = omega arith in let y : min m k ≡ 0 = omega arith in rw y (omega (arith, zero-mul (min n k), ap (λ x. x * n) z, zero-mul n))
+    ]
+
 -- the part from the start is written, and then the first w cells are wiped
 pub wiped_part : (w W : ℕ) (xs ys zs : List ℕ) → w ≡ W → length ys ≡ w → w ≤ length xs → zs ≡ zeroed w (ys ++ drop (w - 0) xs) → zs ≡ zeroed W xs
 wiped_part w W xs ys zs p q h e = e ∙ zeroed-over w ys xs q h ∙ ap (λ (x : ℕ). zeroed x xs) p
+
+pub part_long : (m n : ℕ) (xs : List ℕ) → m ≡ n → n ≤ length xs → length (take (m - 0) xs) ≡ n
+part_long m n xs e h = simp length-take (omega arith)
 
 -- ---- rows taken one after the other
 -- line is row i of the grid w, and rest what stands after it

@@ -1,5 +1,6 @@
 -- Of a grid whose columns were read and whose rows were decoded, only the decoded grid can be within reach. Assumes nothing.
-use Rattle.std.proofs.Common.{◌≡◌, ℕ, ◌+◌, ◌*◌, ◌<◌, ◌≤◌, Bool, true, false, List, length, get_or, sym, refl, subst, inl, inr, arith}
+use Rattle.std.proofs.Common.{◌≡◌, ℕ, ◌+◌, ◌*◌, ◌<◌, ◌≤◌, Bool, true, false, List, length, get_or, sym, refl, subst, inl, inr, arith, ap}
+use Rattle.algebra.proofs.Products.{product_apart}
 use Rattle.std.proofs.lemmas.Bool.{cases_lt}
 use Rattle.code.specs.declared.cells.Counts.{Counts}
 use Rattle.code.specs.Cells.{blank, cost, wrongs, blanks}
@@ -61,11 +62,23 @@ module _ (a b : Codebook) (p : Apart a) (small : a.q ≤ blank) (r x ws : List �
           | inr k ↦ k
         ]
 
+    pub beyond_cost : a.d * b.d ≤ cost r y → Beyond (grids a b) r
+    beyond_cost h v g =
+        elim (cases_lt (cost r v) (a.d * b.d)) [
+          | inl l ↦ absurd (omega (arith, h, l, ap (cost r) (only v g l)))
+          | inr k ↦ k
+        ]
+
     pub rows_symbols : a.q ≡ b.q → Symbols a.q y
     rows_symbols same k h =
         let at = place a.n b.n k (omega arith) in
         let here : get_or y (at.i * b.n + at.j) 0 < a.q = omega (arith, row_at b.n y at.i at.j at.column_in, q.symbols _ (rows at.i at.row_in).word at.j at.column_in, same) in
         rw at.is at here
+
+    pub whole : (c : Counts) → ((j : ℕ) → j < b.n → a.Word (column a.n b.n y j)) → c.wrong ≡ wrongs r y → c.blank ≡ blanks r
+        → 2 * c.wrong + c.blank < a.d * b.d → Within (grids a b) r y c
+    whole c columns wrong-is blank-is cheap =
+        within (grids a b) (product_apart a b p q) r e y c (record { sized = long; columns = columns; rows = λ i h. (rows i h).word }) wrong-is blank-is cheap
 
 -- the numbers as the code has them: m columns were found, and the n1 rows decoded at d
 module _ (a b : Codebook) (p : Apart a) (small : a.q ≤ blank) (same : a.q ≡ b.q) (r x ws : List ℕ) (e : length r ≡ a.n * b.n)

@@ -8,7 +8,7 @@ mod polynomials;
 mod remainders;
 
 pub use polynomials::Sixteen;
-pub use remainders::{Bits, Digits, Modulus};
+pub use remainders::{Bits, Digits, Modulus, Residues};
 
 // A kind of symbols. Every operation belongs to the kind, so no value of it is needed; an operand at or above q counts as its remainder on division by q.
 pub trait Alphabet {

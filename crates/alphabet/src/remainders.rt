@@ -1,10 +1,11 @@
-// The alphabets that calculate with remainders on division by q: two bits, and ten digits.
+// The alphabets that calculate with remainders on division by q: two bits, ten digits, and one for every other modulus.
 ghost use Rattle.std.specs.Prelude.{◌≡◌, ℕ, ◌≤◌};
 ghost use Rattle.alphabet.specs.Remainders.{plus_mod, minus_mod, times_mod};
 ghost use Rattle.std.proofs.Common.{lit≤};
 ghost use Rattle.alphabet.specs.Modular.{remainders};
 
 use crate::Alphabet;
+use std::marker::PhantomData;
 
 // A number of symbols by which the remainders on division are an alphabet.
 pub trait Modulus {
@@ -43,7 +44,13 @@ impl Modulus for Digits {
     ghost high = { lit≤ tt };
 }
 
-impl<M: Modulus> Alphabet for M {
+// The alphabet of the remainders on division by a modulus.
+#[derive(Clone, Copy, PartialEq, Eq, Debug)]
+pub struct Residues<M> {
+    modulus: PhantomData<M>,
+}
+
+impl<M: Modulus> Alphabet for Residues<M> {
     const Q: u16 = M::MODULUS;
 
     ghost Q = { M.MODULUS };
@@ -58,7 +65,7 @@ impl<M: Modulus> Alphabet for M {
 
     fn size() -> u16
         ensures is { result ≡ M.MODULUS }
-        ensures constant { ⟦<M as Alphabet>⟧.Q ≡ result }
+        ensures constant { ⟦<Residues<M> as Alphabet>⟧.Q ≡ result }
     {
         M::MODULUS
     }
@@ -76,5 +83,72 @@ impl<M: Modulus> Alphabet for M {
     fn multiply(a: u16, b: u16) -> u16 {
         let q = M::MODULUS;
         (a % q) * (b % q) % q
+    }
+}
+
+// Bits and Digits are alphabets by impls of their own, since a constant or an array's length may name the constant of such an impl, and none of an impl for every modulus.
+impl Alphabet for Bits {
+    const Q: u16 = <Bits as Modulus>::MODULUS;
+
+    ghost Q = { 2 };
+
+    ghost plus = { plus_mod 2 };
+
+    ghost minus = { minus_mod 2 };
+
+    ghost times = { times_mod 2 };
+
+    ghost ring = { remainders 2 (lit≤ tt) (lit≤ tt) };
+
+    fn size() -> u16
+        ensures is { result ≡ 2 }
+        ensures constant { ⟦<Bits as Alphabet>⟧.Q ≡ result }
+    {
+        Self::Q
+    }
+
+    fn add(a: u16, b: u16) -> u16 {
+        Residues::<Self>::add(a, b)
+    }
+
+    fn negate(a: u16) -> u16 {
+        Residues::<Self>::negate(a)
+    }
+
+    fn multiply(a: u16, b: u16) -> u16 {
+        Residues::<Self>::multiply(a, b)
+    }
+}
+
+impl Alphabet for Digits {
+    const Q: u16 = <Digits as Modulus>::MODULUS;
+
+    ghost Q = { 10 };
+
+    ghost plus = { plus_mod 10 };
+
+    ghost minus = { minus_mod 10 };
+
+    ghost times = { times_mod 10 };
+
+    ghost ring = { remainders 10 (lit≤ tt) (lit≤ tt) };
+
+    fn size() -> u16
+        ensures is { result ≡ 10 }
+        ensures constant { ⟦<Digits as Alphabet>⟧.Q ≡ result }
+    {
+        Self::Q
+    }
+
+    fn add(a: u16, b: u16) -> u16 {
+        Residues::<Self>::add(a, b)
+    }
+
+    fn negate(a: u16) -> u16 {
+        Residues::<Self>::negate(a)
+    }
+
+    fn multiply(a: u16, b: u16) -> u16 {
+        Residues::<Self>::multiply(a, b)
     }
 }

@@ -1,6 +1,7 @@
 -- A word that costs less than the distance comes back from every read, and one at the distance from none. Assumes nothing.
-use Rattle.std.proofs.Common.{◌≡◌, ℕ, ◌<◌, List, length, Ok, Err, Result, sym, ap, ◌∙◌, subst, ap₂, inl, inr, arith}
-use Rattle.std.proofs.lemmas.Bool.{cases_eq, cases_lt, eq-eqb, ne_eqb, lt-ltb, le-ltb}
+use Rattle.std.proofs.Common.{◌≡◌, ℕ, ◌<◌, List, length, Ok, Err, Result, sym, ap, ◌∙◌, subst, ap₂, inl, inr, arith, ◌≤◌, eqb, ltb}
+use Rattle.forecast.specs.declared.Forecast.{Forecast}
+use Rattle.std.proofs.lemmas.Bool.{cases_eq, cases_lt, eq-eqb, ne_eqb, lt-ltb, le-ltb, cond-true, cond-false}
 use Rattle.code.specs.declared.cells.Counts.{Counts}
 use Rattle.code.specs.declared.refusals.Reason.TheVariants.{Lost}
 use Rattle.code.specs.declared.refusals.Refusal.{Refusal}
@@ -11,7 +12,7 @@ use Rattle.code.specs.Calls.{found, reads, read_checks, Reads}
 use Rattle.code.proofs.Costs.{at_reach}
 use Rattle.code.proofs.Rows.{equal_or_not, taken_encoded}
 use Rattle.forecast.specs.declared.Forecast.TheVariants.{Returns, GetsLost}
-use Rattle.forecast.specs.Forecasts.{forecast, Returned, Foretells}
+use Rattle.forecast.specs.Forecasts.{forecast, Returned, Foretells, foreseen}
 
 module _ (b : Codebook) (apart : Apart b) (l : Layout) (w r : List ℕ) (word : b.Word w) (sized : length r ≡ b.n) where
   judged : (a a' k k' : List ℕ) (res : Result Counts Refusal) → read_checks b r a k ≡ Ok tt → Reads b r a a' k k' res → found b r a a' res
@@ -52,3 +53,11 @@ module _ (b : Codebook) (apart : Apart b) (l : Layout) (w r : List ℕ) (word : 
           | inr ne ↦ rw (le-ltb c b.d most, ne_eqb c b.d ne) (λ a a' k k' res passed h. tt)
         ]
       ]
+
+-- sizes that fit leave the forecast of the cost
+pub sizes_fit : (n d : ℕ) (w r : List ℕ) (f : Forecast) → n ≤ 4096 → length w ≡ n → length r ≡ n → f ≡ forecast (cost r w) d → Ok f ≡ foreseen n d w r
+sizes_fit n d w r f short ew er ef =
+    ap Ok ef
+    ∙ sym (cond-true (eqb (length r) n) _ _ (eq-eqb (length r) n er))
+    ∙ sym (cond-true (eqb (length w) n) _ _ (eq-eqb (length w) n ew))
+    ∙ sym (cond-false (ltb 4096 n) _ _ (le-ltb 4096 n short))

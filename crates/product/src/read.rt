@@ -303,10 +303,12 @@ impl<A: Code, B: Code<Symbols = A::Symbols>> Product<A, B> {
     fn decode(
         &self,
         received: &[u16],
+        d1: usize,
         grid: &mut [u16],
         weights: &mut [u16],
         lines: &mut [u16],
     ) -> bool
+        requires distance { (d1 ≡ (A.Code.codebook self.now.columns).d) × (d1 ≤ 4096) }
         requires columns_ready { Roomy (A.Code.codebook self.now.columns) (length lines.old) }
         requires rows_ready { Roomy (B.Code.codebook self.now.rows) (length lines.old) }
         requires fits { (length received.now ≡ (⟦<Product<A, B> as Code>⟧.codebook self.now).n) × (length grid.old ≡ length received.now) × (length grid.old ≤ 4096) × (length weights.old ≡ (B.Code.codebook self.now.rows).n) }
@@ -318,7 +320,7 @@ impl<A: Code, B: Code<Symbols = A::Symbols>> Product<A, B> {
         correct_columns(&self.columns, received, grid, weights, lines);
         let weights = Weights {
             each: weights,
-            most: distance_of(&self.columns),
+            most: d1,
         };
         let decoder = RowDecoder {
             code: &self.rows,
@@ -341,11 +343,11 @@ impl<A: Code, B: Code<Symbols = A::Symbols>> Product<A, B> {
     {
         let (grid, tail) = work.split_at_mut(received.len());
         let (weights, lines) = tail.split_at_mut(length_of(&self.rows));
-        if !self.decode(received, grid, weights, lines) {
+        let d1 = distance_of(&self.columns);
+        if !self.decode(received, d1, grid, weights, lines) {
             return Err(Reason::Lost.at(0));
         }
         let counts = count(received, grid)?;
-        let d1 = distance_of(&self.columns);
         let d2 = distance_of(&self.rows);
         if counts.cost() >= d1 * d2 {
             return Err(Reason::Lost.at(0));

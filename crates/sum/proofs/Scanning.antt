@@ -2,9 +2,9 @@
 use Rattle.std.proofs.Common.{T, subst, Option, Some, None, is_some, false, lit<, ◌≡◌, ℕ, ◌+◌, ◌%◌, ◌<◌, ◌≤◌, true, ◌≢◌, List, length, get_or, sym, ap, ◌∙◌, ap₂, mod-eq_of_lt, add-one, arith}
 use Rattle.std.proofs.lemmas.Bool.Decides.{nat_tests}
 use Rattle.alphabet.specs.Rings.{Ring}
-use Rattle.alphabet.specs.Sums.{added}
+use Rattle.alphabet.specs.Sums.{added, sum}
 use Rattle.alphabet.proofs.Additions.{added_closed}
-use Rattle.alphabet.proofs.Sums.{sum_more, two_places}
+use Rattle.alphabet.proofs.Sums.{sum_more, two_places, sum_same, sum_constant}
 use Rattle.alphabet.proofs.Symbols.{zero_in}
 use Rattle.code.specs.Cells.{blank, faint, good, Holds, blanks}
 use Rattle.code.specs.declared.cells.Content.TheVariants.{Word, Received}
@@ -75,6 +75,17 @@ module _ {q : ℕ} {add : ℕ → ℕ → ℕ} {neg : ℕ → ℕ} {mul : ℕ �
       omega (arith, two_places (length r) (λ j. faint (get_or r j 0)) i h l (omega arith) (λ z. omega arith) (faint-one (get_or r i 0) e) (faint-one (get_or r h 0) (s.hole (lit< tt))))
 
 -- ---- cells that hold symbols only
+tame : (q x : ℕ) → q ≤ blank → good Word q x ≡ true → (good Received q x ≡ true) × (faint x ≡ 0)
+tame q x few h = (grind (arith, nat_tests), grind (arith, nat_tests))
+
+pub word-clean : (q : ℕ) (r : List ℕ) → q ≤ blank → Holds Word q r → Holds Received q r
+word-clean q r few h i l = (tame q (get_or r i 0) few (h i l)).0
+
+pub no_blanks : (q : ℕ) (r : List ℕ) → q ≤ blank → Holds Word q r → sum (length r) (λ i. faint (get_or r i 0)) ≡ 0
+no_blanks q r few h =
+    let none = sum_same (length r) (λ i. faint (get_or r i 0)) (λ i. 0) (λ i l. (tame q (get_or r i 0) few (h i l)).1) in
+    omega (arith, none, sum_constant (length r) 0)
+
 module _ {q : ℕ} {add : ℕ → ℕ → ℕ} {neg : ℕ → ℕ} {mul : ℕ → ℕ → ℕ} (ring : Ring q add neg mul) (r : List ℕ)
     (words : Holds Word q r) where
   symbol_below : (i : ℕ) → i < length r → get_or r i 0 < q

@@ -1,11 +1,15 @@
 -- A survey goes on by one word: the least weight so far, and the cheapest word so far. Assumes nothing.
-use Rattle.std.proofs.Common.{◌≡◌, ℕ, zero, suc, ◌+◌, ◌-◌, ◌*◌, ◌^◌, ◌<◌, ◌≤◌, min, true, false, cond, not, eqb, count_by, List, [], ◌∷◌, length, get_or, replicate, sym, refl, ap, ◌∙◌, subst, ap₂, arith, below_more}
-use lib.ListN.{get_or-replicate}
+use Rattle.std.proofs.Common.{◌≡◌, ℕ, zero, suc, ◌+◌, ◌-◌, ◌*◌, ◌^◌, ◌<◌, ◌≤◌, min, true, false, cond, not, eqb, count_by, List, [], ◌∷◌, length, get_or, take, replicate, sym, refl, ap, ◌∙◌, subst, ap₂, inl, inr, arith, below_more}
+use lib.ListN.{length-replicate, get_or-replicate}
+use Rattle.std.proofs.lemmas.List.{take-replicate}
+use Rattle.std.proofs.lemmas.Bool.{cases_eq}
+use Rattle.std.proofs.lemmas.Bool.Decides.{nat_tests}
 use Rattle.std.proofs.lemmas.List.Sums.{sum_by-cons}
 use Rattle.alphabet.specs.Rings.{Ring}
 use Rattle.alphabet.specs.Sums.{sum}
 use Rattle.code.specs.declared.cells.Counts.{Counts}
-use Rattle.code.specs.Cells.{wrongs, blanks, cost}
+use Rattle.code.specs.Cells.{wrong, wrongs, blanks, cost}
+use Rattle.alphabet.proofs.Sums.{sum_same}
 use Rattle.table.specs.Tables.{Generator, Tabled, weight, number, spelled, lowest, least}
 use Rattle.table.specs.Surveys.{Surveyed}
 use Rattle.table.specs.Numbers.{number_same, number_nought, lowest_more}
@@ -21,6 +25,20 @@ pub record Sofar (s : Generator) (r word nearest : List ℕ) (t d : ℕ) (c : Co
   pub blank : c.blank ≡ blanks r
   pub few : c.wrong + c.blank ≤ length r
   pub cheapest : (u : ℕ) → u < t → cost r nearest ≤ cost r (spelled s u)
+
+-- ---- weights are counts against zeros
+one-zero : (x y : ℕ) → x ≡ 0 → wrong x y ≡ cond (eqb y 0) 0 1
+one-zero x y e = elim (cases_eq y 0) [ inl z ↦ grind (arith, nat_tests) | inr ne ↦ grind (arith, nat_tests) ]
+
+pub weight_counted : (n k : ℕ) (w : List ℕ) → length w ≡ n → n ≤ k → wrongs (take (n - 0) (replicate k 0)) w ≡ weight w
+weight_counted n k w e h =
+    let m : n - 0 ≡ n = omega arith in
+    let inside : (i : ℕ) → i < length w → i < n = λ i l. omega arith in
+    let zeros : take (n - 0) (replicate k 0) ≡ replicate n 0 = ap (λ j. take j (replicate k 0)) m ∙ take-replicate n k 0 h in
+    ap (λ z. wrongs z w) zeros
+    ∙ ap (λ j. sum j (λ i. wrong (get_or (replicate n 0) i 0) (get_or w i 0))) (length-replicate n 0 ∙ sym e)
+    ∙ sum_same (length w) (λ i. wrong (get_or (replicate n 0) i 0) (get_or w i 0)) (λ i. cond (eqb (get_or w i 0) 0) 0 1)
+    (λ i l. one-zero (get_or (replicate n 0) i 0) (get_or w i 0) (get_or-replicate n i 0 0 (inside i l)))
 
 -- ---- a weight counts the symbols that are not 0
 sum_front : (n : ℕ) (f : ℕ → ℕ) → sum (suc n) f ≡ f 0 + sum n (λ i. f (suc i))
@@ -102,6 +120,13 @@ module _ (s : Generator) {neg : ℕ → ℕ} (ring : Ring s.q s.add neg s.mul) (
       few = h.few;
       cheapest = below_more _ _ h.cheapest (omega (arith, ap (cost r) word_is, h.wrong, h.blank));
     }
+
+    -- what the code holds under other names: y for the nearest word, e for the least weight, k for the counts
+    pub renamed : (x y : List ℕ) (e : ℕ) (k o : Counts) → y ≡ x → e ≡ min distance w → k ≡ o → Sofar s r next x (t + 1) (min distance w) o → Sofar s r next y (t + 1) e k
+    renamed x y e k o ey ee ek h =
+        subst (λ (z : List ℕ). Sofar s r next z (t + 1) e k) (sym ey)
+        (subst (λ (z : ℕ). Sofar s r next x (t + 1) z k) (sym ee)
+        (subst (λ (z : Counts). Sofar s r next x (t + 1) (min distance w) z) (sym ek) h))
 
   -- ---- all words
   pub surveyed : (word nearest : List ℕ) (t distance : ℕ) (c : Counts) → Sofar s r word nearest t distance c → t ≡ s.q ^ s.k

@@ -1,10 +1,10 @@
 -- The numbers of messages, and the least of some numbers. Assumes nothing.
-use Rattle.std.specs.Prelude.{◌≡◌, ℕ, zero, suc, ◌+◌, ◌-◌, ◌*◌, ◌/◌, ◌%◌, ◌^◌, ◌<◌, ◌≤◌, min, true, ◌&&◌, ◌≢◌, ◌⊎◌, nat_le, refl}
-use Rattle.std.proofs.Common.{sym, ap, ap₂, ◌∙◌, inl, inr, ⊎_elim, suc-le-suc, zero-mul, one-mul, add-mul, mul_assoc, mul_comm, pow-suc, mul-le-mul_right, not-suc-le-zero, le_of_suc-le-suc, arith, add-one}
+use Rattle.std.specs.Prelude.{◌≡◌, ℕ, zero, suc, ◌+◌, ◌-◌, ◌*◌, ◌/◌, ◌%◌, ◌^◌, ◌<◌, ◌≤◌, min, Bool, true, ◌&&◌, T, leb, ◌≢◌, ◌⊎◌, nat_le, refl}
+use Rattle.std.proofs.Common.{sym, ap, ap₂, ◌∙◌, inl, inr, ⊎_elim, suc-le-suc, zero-mul, one-mul, add-mul, mul_assoc, mul_comm, pow-suc, mul-le-mul, mul-le-mul_left, mul-le-mul_right, not-suc-le-zero, le_of_suc-le-suc, arith, add-one, leb→le}
 use Rattle.std.proofs.Math.Nat.{pow-zero}
 use Rattle.std.proofs.lemmas.Nat.{div-mul-add, mod-mul-add, mod_below, div_below, div-add-mod'}
-use Rattle.std.proofs.lemmas.Bool.{cases_eq, cases_lt, leb-true, and_parts}
-use Rattle.table.specs.Tables.{over, digit, number, lowest, tabulable}
+use Rattle.std.proofs.lemmas.Bool.{cases_eq, cases_lt, cond-true, cond-false, le-leb, lt-leb, leb-true, and_parts}
+use Rattle.table.specs.Tables.{over, digit, number, lowest, capped, tabulable}
 
 -- ---- digits
 over_next : (q t i : ℕ) → over q (t / q) i ≡ over q t (suc i)
@@ -87,6 +87,10 @@ number_digits q (suc k) t z h =
 either_min : (a b : ℕ) → (min a b ≡ a) ⊎ (min a b ≡ b)
 either_min a b = ⊎_elim (λ l. inr (omega arith)) (λ g. inl (omega arith)) (cases_lt b a)
 
+pub lowest_start : (b : ℕ) (f : ℕ → ℕ) (n : ℕ) → lowest b f n ≤ b
+lowest_start b f zero = omega arith
+lowest_start b f (suc n) = omega (arith, lowest_start b f n)
+
 pub lowest_le : (b : ℕ) (f : ℕ → ℕ) (n i : ℕ) → i < n → lowest b f n ≤ f i
 lowest_le b f zero i h = absurd (not-suc-le-zero h)
 lowest_le b f (suc n) i h =
@@ -110,6 +114,13 @@ lowest_reached b f (suc n) low =
     (λ e. record { at = suc n; inside = omega arith; same = sym e })
     (either_min (lowest b f (suc n)) (f (suc n)))
 
+pub lowest_positive : (b : ℕ) (f : ℕ → ℕ) (n : ℕ) → 1 ≤ b → ((i : ℕ) → i < n → 1 ≤ f i) → 1 ≤ lowest b f n
+lowest_positive b f zero h low = h
+lowest_positive b f (suc n) h low =
+    let rest : 1 ≤ lowest b f n = lowest_positive b f n h (λ i l. low i (omega arith)) in
+    let here : 1 ≤ f n = low n (omega arith) in
+    ⊎_elim (λ e. omega arith) (λ e. omega arith) (either_min (lowest b f n) (f n))
+
 pub lowest_more : (b : ℕ) (f : ℕ → ℕ) (t best w : ℕ) → 1 ≤ t → best ≡ lowest b f (t - 1) → w ≡ f (t - 1) → min best w ≡ lowest b f (t + 1 - 1)
 lowest_more b f t best w h e ew =
     let n : suc (t - 1) ≡ t + 1 - 1 = omega arith in
@@ -120,5 +131,39 @@ pub pow_some : (q j : ℕ) → 1 ≤ q → 1 ≤ q ^ j
 pow_some q zero h = omega (arith, pow-zero q)
 pow_some q (suc j) h = omega (arith, pow-suc q j, mul-le-mul_right q (pow_some q j h))
 
+pow_further : (q a d : ℕ) → 1 ≤ q → q ^ a ≤ q ^ (a + d)
+pow_further q a zero h = let e : a + 0 ≡ a = omega arith in omega (arith, ap (λ j. q ^ j) e)
+pow_further q a (suc d) h =
+    let e : a + suc d ≡ suc (a + d) = omega arith in
+    omega (arith, ap (λ j. q ^ j) e, pow-suc q (a + d), mul-le-mul_left (q ^ (a + d)) h, pow_further q a d h)
+
+pub pow_up : (q a b : ℕ) → 1 ≤ q → a ≤ b → q ^ a ≤ q ^ b
+pow_up q a b h l = let e : a + (b - a) ≡ b = omega arith in omega (arith, ap (λ j. q ^ j) e, pow_further q a (b - a) h)
+
+pub pow_more : (q p i n : ℕ) → n ≡ q ^ i → p ≡ q → n * p ≡ q ^ (i + 1)
+pow_more q p i n e ep = ap₂ (λ a b. a * b) e ep ∙ sym (pow-suc q i) ∙ ap (λ j. q ^ j) (sym (add-one i))
+
+pub capped_is : (q k : ℕ) → q ^ k ≤ 65536 → capped q k ≡ q ^ k
+capped_is q k h = cond-true (nat_le (q ^ k) 65536) _ _ (le-leb (q ^ k) 65536 h)
+
+pub capped_past : (q k : ℕ) → 65536 < q ^ k → capped q k ≡ 65537
+capped_past q k h = cond-false (nat_le (q ^ k) 65536) _ _ (lt-leb (q ^ k) 65536 h)
+
+pub capped_fits : (q k r : ℕ) → r ≡ capped q k → T (nat_le r 65536) → q ^ k ≤ 65536
+capped_fits q k r e t = ⊎_elim (λ l. omega (arith, leb→le r 65536 t, e, capped_past q k l)) (λ g. g) (cases_lt 65536 (q ^ k))
+
+pub capped_leb : (q k r : ℕ) → r ≡ capped q k → nat_le r 65536 ≡ nat_le (q ^ k) 65536
+capped_leb q k r e =
+    ⊎_elim
+    (λ l. ap (λ x. leb x 65536) (e ∙ capped_past q k l) ∙ sym (lt-leb (q ^ k) 65536 l))
+    (λ g. ap (λ x. leb x 65536) (e ∙ capped_is q k g))
+    (cases_lt 65536 (q ^ k))
+
+pub limits_leb : (k m : ℕ) (b : Bool) → 1 ≤ k → k ≤ 8 → 1 ≤ m → m ≤ 16 → b ≡ ((nat_le 1 k && nat_le k 8) && ((nat_le 1 m && nat_le m 16) && b))
+limits_leb k m b h1 h2 h3 h4 = rw (le-leb 1 k h1, le-leb k 8 h2, le-leb 1 m h3, le-leb m 16 h4)
+
 pub at_least_one : (q k m : ℕ) → tabulable q k m ≡ true → 1 ≤ k
 at_least_one q k m e = leb-true 1 k (and_parts (nat_le 1 k) (nat_le k 8) (and_parts (nat_le 1 k && nat_le k 8) ((nat_le 1 m && nat_le m 16) && nat_le (q ^ k) 65536) e).0).0
+
+pub small_table : (k m : ℕ) → k ≤ 8 → m ≤ 16 → k * m ≤ 128
+small_table k m h l = omega (arith, mul-le-mul h l)

@@ -92,3 +92,7 @@ front k = record { k = k; place = λ i. i }
 -- the limits of the maker: k from 1 to 8, m from 1 to 16, and at most 65,536 messages
 abbrev pub tabulable : (q k m : ℕ) → Bool
 tabulable q k m = (nat_le 1 k && nat_le k 8) && ((nat_le 1 m && nat_le m 16) && nat_le (q ^ k) 65536)
+
+-- the number of messages up to 65,536, and 65,537 above that
+abbrev pub capped : (q k : ℕ) → ℕ
+capped q k = cond (nat_le (q ^ k) 65536) (q ^ k) 65537

@@ -24,8 +24,14 @@ pub(crate) fn message_count<S: Alphabet>(k: usize, m: usize) -> Option<usize>
     if !(1..=MAX_MESSAGE).contains(&k) || !(1..=MAX_CHECKS).contains(&m) {
         return None;
     }
-    let count = usize::from(S::Q).checked_pow(u32::try_from(k).ok()?)?;
-    (count <= MAX_MESSAGES).then_some(count)
+    let mut count: usize = 1;
+    for _ in 0..k {
+        count *= usize::from(S::Q);
+        if count > MAX_MESSAGES {
+            return None;
+        }
+    }
+    Some(count)
 }
 
 // k message symbols, m check symbols, and the coefficients row by row; what stands behind them does not count.

@@ -19,6 +19,16 @@ fn symbols(rt: HostRuntime) {
     assert_eq!(rt; Bits::add(1, 1), 0);
 }
 
+// The number of symbols, where a constant is asked for.
+const TEN: u16 = <Digits as Alphabet>::Q;
+
+#[test]
+fn constants(rt: HostRuntime) {
+    let two = [0u8; <Bits as Alphabet>::Q as usize];
+    let sixteen = [0u8; <Sixteen as Alphabet>::Q as usize];
+    assert_eq!(rt; [two.len(), usize::from(TEN), sixteen.len()], [2, 10, 16]);
+}
+
 #[test]
 fn numbers_at_and_above_q_count_as_their_remainders(rt: HostRuntime) {
     assert_eq!(rt; Digits::add(17, 65535), 2);

@@ -19,6 +19,10 @@ pub length_of-requires : goal.length_of-requires
 length_of-requires g c =
     rows_small (g.A.Code.codebook c.args.self.now.columns) (g.B.Code.codebook c.args.self.now.rows) _ _ (g.met.A.Code.apart c.args.self.now.columns) c.requires.ready
 
+pub distance_of-d1-requires : goal.distance_of-d1-requires
+distance_of-d1-requires g c =
+    columns_small (g.A.Code.codebook c.args.self.now.columns) (g.B.Code.codebook c.args.self.now.rows) _ _ (g.met.B.Code.apart c.args.self.now.rows) c.requires.ready
+
 pub decode-requires-clause-columns_ready : goal.decode-requires-clause-columns_ready
 decode-requires-clause-columns_ready g c = record {
   short = columns_small (g.A.Code.codebook c.args.self.now.columns) (g.B.Code.codebook c.args.self.now.rows) _ _ (g.met.B.Code.apart c.args.self.now.rows) c.requires.ready;
